@@ -1,0 +1,4 @@
+pub mod Kinds
+pub mod Numbered
+pub mod Payloads
+pub mod Same
