@@ -1,0 +1,3 @@
+mod bytes;
+pub mod call;
+mod fields;
