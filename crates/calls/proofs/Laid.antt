@@ -44,15 +44,27 @@ layout-of-fields b h l =
 pub longer : {x y front : List ℕ} (part : List ℕ) → x ≡ y ++ part → y ≡ front → x ≡ front ++ part
 longer part e f = e ∙ ap (λ z. z ++ part) f
 
-fields-are : (f : Fields) (a b c d e h i j k l m n o p : ℕ) → a ≡ f .call → b ≡ f .kind → c ≡ f .gap → d ≡ f .key →
-    e ≡ f .participant → h ≡ f .space → i ≡ f .round .epoch → j ≡ f .round .view → k ≡ f .parent →
-    l ≡ f .words .w1 → m ≡ f .words .w2 → n ≡ f .words .w3 → o ≡ f .words .w4 → p ≡ f .signature →
-    _≡_ {A = Fields} (record { call = a; kind = b; gap = c; key = d; participant = e; space = h; round = record { epoch = i; view = j }; parent = k; words = record { w1 = l; w2 = m; w3 = n; w4 = o }; signature = p }) f
-fields-are f a b c d e h i j k l m n o p a′ b′ c′ d′ e′ h′ i′ j′ k′ l′ m′ n′ o′ p′ =
-    let q : _≡_ {A = Fields} (record { call = a; kind = b; gap = c; key = d; participant = e; space = h; round = record { epoch = i; view = j }; parent = k; words = record { w1 = l; w2 = m; w3 = n; w4 = o }; signature = p })
-            (record { call = f .call; kind = f .kind; gap = f .gap; key = f .key; participant = f .participant; space = f .space; round = record { epoch = f .round .epoch; view = f .round .view }; parent = f .parent; words = record { w1 = f .words .w1; w2 = f .words .w2; w3 = f .words .w3; w4 = f .words .w4 }; signature = f .signature })
-        = cc in
-    q
+-- records are equal when their fields are
+pub rounds-are : (r s : Rnd) → r .epoch ≡ s .epoch → r .view ≡ s .view → r ≡ s
+rounds-are r s a b =
+    let q : _≡_ {A = Rnd} (record { epoch = r .epoch; view = r .view }) (record { epoch = s .epoch; view = s .view }) = cc in q
+
+pub words-are : (v w : Words) → v .w1 ≡ w .w1 → v .w2 ≡ w .w2 → v .w3 ≡ w .w3 → v .w4 ≡ w .w4 → v ≡ w
+words-are v w a b c d =
+    let q : _≡_ {A = Words} (record { w1 = v .w1; w2 = v .w2; w3 = v .w3; w4 = v .w4 })
+            (record { w1 = w .w1; w2 = w .w2; w3 = w .w3; w4 = w .w4 }) = cc in q
+
+pub fields-are : (f g : Fields) → f .call ≡ g .call → f .kind ≡ g .kind → f .gap ≡ g .gap → f .key ≡ g .key →
+    f .participant ≡ g .participant → f .space ≡ g .space → f .round ≡ g .round → f .parent ≡ g .parent →
+    f .words ≡ g .words → f .signature ≡ g .signature → f ≡ g
+fields-are f g a b c d e h i j k l =
+    let q : _≡_ {A = Fields}
+            (record
+            { call = f .call; kind = f .kind; gap = f .gap; key = f .key; participant = f .participant; space = f .space
+            ; round = f .round; parent = f .parent; words = f .words; signature = f .signature })
+            (record
+            { call = g .call; kind = g .kind; gap = g .gap; key = g .key; participant = g .participant; space = g .space
+            ; round = g .round; parent = g .parent; words = g .words; signature = g .signature }) = cc in q
 
 -- each field is read back from the bytes that hold it
 pub fields-of-layout : (f : Fields) (rest : List ℕ) →
@@ -64,4 +76,6 @@ pub fields-of-layout : (f : Fields) (rest : List ℕ) →
     numberIn (bytesOf 8 (f .words .w2)) ≡ f .words .w2 → numberIn (bytesOf 8 (f .words .w3)) ≡ f .words .w3 →
     numberIn (bytesOf 8 (f .words .w4)) ≡ f .words .w4 → numberIn (bytesOf 8 (f .signature)) ≡ f .signature →
     fieldsIn (layout f ++ rest) ≡ f
-fields-of-layout f rest = fields-are f _ _ _ _ _ _ _ _ _ _ _ _ _ _
+fields-of-layout f rest a b c d e h i j k l m n o p =
+    let g = fieldsIn (layout f ++ rest) in
+    fields-are g f a b c d e h (rounds-are (g .round) (f .round) i j) k (words-are (g .words) (f .words) l m n o) p

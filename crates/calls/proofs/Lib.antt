@@ -1,2 +1,4 @@
 mod Digits
 mod Laid
+mod Onlyread
+mod Unread

@@ -1,3 +1,5 @@
 mod bytes;
 pub mod call;
 mod fields;
+mod parse;
+mod shape;

@@ -1,0 +1,55 @@
+-- Fields and calls: a call's fields read as the call, and what reads as a call has that call's fields.
+use mathlib.Core.Path.{_≡_, refl, sym, ap, subst, _∙_}
+use mathlib.Core.Bool.{Bool, true, false, cond, _&&_, _||_}
+use mathlib.Core.List.{List}
+use Prim.Native.Nat.{ℕ}
+use native.Mathlib.Omega.{arith}
+use lib.Dec.{eqb}
+use Rattle.std.specs.declared.option.Option.{Option}
+use Rattle.std.specs.declared.option.Option.the-variants.{Some, None}
+use Rattle.std.specs.declared.result.Result.{Result}
+use Rattle.std.specs.declared.result.Result.the-variants.{Ok, Err}
+use Rattle.std.specs.Options.{mapped, okOr, valueOr, Cases}
+use Rattle.values.specs.declared.payload.Words.{Words}
+use Rattle.values.specs.declared.types.Rnd.{Rnd}
+use Rattle.values.specs.declared.types.Kind.{Kind}
+use Rattle.values.specs.declared.types.Kind.the-variants as kind
+use Rattle.values.specs.declared.types.Proposal.{Proposal}
+use Rattle.values.specs.declared.types.Subject.{Subject}
+use Rattle.values.specs.declared.types.Subject.the-variants as subject
+use Rattle.values.specs.declared.types.Attestation.{Attestation}
+use Rattle.values.specs.declared.types.Vote.{Vote}
+use Rattle.values.specs.declared.refusal.Refusal.the-variants.{NotPayload}
+use Rattle.calls.specs.declared.call.Call.{Call}
+use Rattle.calls.specs.declared.call.Call.the-variants as call
+use Rattle.calls.specs.declared.fields.Fields.{Fields}
+use Rattle.calls.specs.Calls.{proposalOf}
+use Rattle.calls.specs.Records.{readFields, fieldsOf}
+
+module _ {P : Type 0} (words : P → Words) (named : Words → Option P) where
+  -- the call's payload is named by its words
+  abbrev pub Told : Call P → Type 0
+  Told c = Cases (proposalOf c) (Unit {0}) (λ p. named (words (p .payload)) ≡ Some (p .payload))
+
+  network-back : (k : ℕ) (s : Subject P) (a : Attestation) → let c : Call P = call.NetworkVote k (record { subject = s; attestation = a }) in
+      Told c → readFields named (fieldsOf words c) ≡ Ok c
+  network-back k (subject.Notarize p) a h = rw h
+  network-back k (subject.Nullify r) a h = refl
+  network-back k (subject.Finalize p) a h = rw h
+
+  constructed-back : (s : Subject P) (a : Attestation) → let c : Call P = call.ConstructedVote (record { subject = s; attestation = a }) in
+      Told c → readFields named (fieldsOf words c) ≡ Ok c
+  constructed-back (subject.Notarize p) a h = rw h
+  constructed-back (subject.Nullify r) a h = refl
+  constructed-back (subject.Finalize p) a h = rw h
+
+  pub fields-back : (c : Call P) → Told c → readFields named (fieldsOf words c) ≡ Ok c
+  fields-back (call.NetworkVote k v) h = network-back k (v .subject) (v .attestation) h
+  fields-back (call.ConstructedVote v) h = constructed-back (v .subject) (v .attestation) h
+  fields-back (call.Certificate (subject.Notarize p)) h = rw h
+  fields-back (call.Certificate (subject.Nullify r)) h = refl
+  fields-back (call.Certificate (subject.Finalize p)) h = rw h
+  fields-back (call.Leader l) h = refl
+  fields-back (call.Forward i) h = refl
+  fields-back call.Attempt h = refl
+  fields-back (call.MissingVoters p) h = rw h
