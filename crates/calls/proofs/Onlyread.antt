@@ -9,6 +9,7 @@ use Rattle.std.specs.declared.option.Option.{Option}
 use Rattle.std.specs.declared.option.Option.the-variants.{Some, None}
 use Rattle.std.specs.declared.result.Result.{Result}
 use Rattle.std.specs.declared.result.Result.the-variants.{Ok, Err}
+use Rattle.std.specs.Vec.{made}
 use Rattle.std.specs.Results as results
 use Rattle.std.specs.Options.{mapped, okOr, valueOr, Cases}
 use Rattle.std.proofs.shelf.Ways.{tells}
@@ -30,7 +31,8 @@ use Rattle.calls.specs.declared.shape.Shape.{Shape}
 use Rattle.calls.specs.declared.shape.Shape.the-variants.{NetworkVote, ConstructedVote, Certificate, Leader, Forward, Attempt, MissingVoters}
 use Rattle.calls.specs.declared.shape.Used.{Used}
 use Rattle.calls.specs.Calls.{proposalIn, proposalOf}
-use Rattle.calls.specs.Records.{kindNamed, shapeNamed, carries, usedBy, blank, zeroWords, noWords, clear, clearInFront, clearBehind, proposalFrom, subjectFrom, voteFrom, callFrom, readShape, readFields, fieldsOf}
+use Rattle.calls.specs.Records.{kindNamed, shapeNamed, carries, usedBy, blank, zeroWords, noWords, clear, clearInFront, clearBehind, proposalFrom, subjectFrom, voteFrom, callFrom, readShape, readFields, fieldsOf, writtenOf}
+use Rattle.calls.specs.Layout.{layout}
 use Rattle.calls.proofs.Laid.{fields-are, rounds-are, words-are}
 
 kind-named : (n : ℕ) (k : Kind) → kindNamed n ≡ Some k → n ≡ kindNumber k
@@ -209,3 +211,8 @@ module _ {P : Type 0} (words : P → Words) (named : Words → Option P) (sound 
 
   pub fields-only : (f : Fields) (c : Call P) → readFields named f ≡ Ok c → fieldsOf words c ≡ f
   fields-only f c h = known (shapeNamed (f .call) (f .kind)) f c refl h
+
+  pub only-writing : (r : Result (Call P) Refusal) (f : Fields) (b : List ℕ) → r ≡ readFields named f → layout f ≡ b →
+      made r (λ c. writtenOf words c ≡ b)
+  only-writing (Ok c) f b e l = ap layout (fields-only f c (sym e)) ∙ l
+  only-writing (Err x) f b e l = tt

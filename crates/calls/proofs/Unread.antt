@@ -31,6 +31,13 @@ module _ {P : Type 0} (words : P → Words) (named : Words → Option P) where
   abbrev pub Told : Call P → Type 0
   Told c = Cases (proposalOf c) (Unit {0}) (λ p. named (words (p .payload)) ≡ Some (p .payload))
 
+  pub told-some : (c : Call P) (p : Proposal P) (w : Words) → proposalOf c ≡ Some p → w ≡ words (p .payload) → named w ≡ Some (p .payload) → Told c
+  told-some c p w e v h =
+      subst (λ o. Cases o (Unit {0}) (λ p. named (words (p .payload)) ≡ Some (p .payload))) (sym e) (ap named (sym v) ∙ h)
+
+  pub told-none : (c : Call P) → proposalOf c ≡ None → Told c
+  told-none c e = subst (λ o. Cases o (Unit {0}) (λ p. named (words (p .payload)) ≡ Some (p .payload))) (sym e) tt
+
   network-back : (k : ℕ) (s : Subject P) (a : Attestation) → let c : Call P = call.NetworkVote k (record { subject = s; attestation = a }) in
       Told c → readFields named (fieldsOf words c) ≡ Ok c
   network-back k (subject.Notarize p) a h = rw h

@@ -1,4 +1,5 @@
 ghost use mathlib.Core.Path.{_≡_};
+ghost use Rattle.std.specs.declared.result.Result.the-variants.{Ok};
 ghost use Rattle.calls.specs.Records.{proposalFrom, subjectFrom, voteFrom, callFrom, readFields, fieldsOf};
 use crate::call::Call;
 use crate::fields::Fields;
@@ -69,6 +70,7 @@ impl Fields {
     // The fields that a call is written as.
     pub(crate) fn from_call<P: Payload>(call: &Call<P>) -> Fields
         ensures value { λ r. ⌜ r ≡ fieldsOf words (now (call .entry)) ⌝ }
+        ensures back { λ r. ⌜ readFields named r ≡ Ok (now (call .entry)) ⌝ }
     {
         let kind = match call.subject() {
             Some(subject) => subject.kind().number(),
