@@ -50,7 +50,7 @@ fn vote_words<P: Spoken>(heap: Global, vote: &Vote<P>) -> Result<String, AllocEr
     let Attestation { signer, signature } = vote.attestation;
     let kind = vote_name(vote.subject.kind());
     let subject = subject_words(heap, &vote.subject)?;
-    format!(heap, "vote signer {signer} {kind} {subject} signature {signature}")
+    format!(heap, "signer {signer} {kind} {subject} signature {signature}")
 }
 
 // A call in words.
@@ -58,11 +58,11 @@ pub(crate) fn call_words<P: Spoken>(heap: Global, call: &Call<P>) -> Result<Stri
     match call {
         Call::NetworkVote(key, vote) => {
             let vote = vote_words(heap, vote)?;
-            format!(heap, "network key {key} {vote}")
+            format!(heap, "network vote key {key} {vote}")
         }
         Call::ConstructedVote(vote) => {
             let vote = vote_words(heap, vote)?;
-            format!(heap, "constructed {vote}")
+            format!(heap, "constructed vote {vote}")
         }
         Call::Certificate(subject) => {
             let kind = certificate_name(subject.kind());
@@ -122,7 +122,6 @@ fn certificate_kind(tokens: &mut Tokens<'_>) -> Option<Kind> {
 }
 
 fn vote_from<P: Spoken>(tokens: &mut Tokens<'_>) -> Option<Vote<P>> {
-    tokens.word("vote")?;
     tokens.word("signer")?;
     let signer = tokens.u32()?;
     let kind = vote_kind(tokens)?;
@@ -133,9 +132,15 @@ fn vote_from<P: Spoken>(tokens: &mut Tokens<'_>) -> Option<Vote<P>> {
 }
 
 fn network_vote_from<P: Spoken>(tokens: &mut Tokens<'_>) -> Option<Call<P>> {
+    tokens.word("vote")?;
     tokens.word("key")?;
     let key = tokens.u64()?;
     Some(Call::NetworkVote(key, vote_from(tokens)?))
+}
+
+fn constructed_vote_from<P: Spoken>(tokens: &mut Tokens<'_>) -> Option<Call<P>> {
+    tokens.word("vote")?;
+    Some(Call::ConstructedVote(vote_from(tokens)?))
 }
 
 fn certificate_from<P: Spoken>(tokens: &mut Tokens<'_>) -> Option<Call<P>> {
@@ -156,7 +161,7 @@ fn missing_voters_from<P: Spoken>(tokens: &mut Tokens<'_>) -> Option<Call<P>> {
 fn call_from<P: Spoken>(tokens: &mut Tokens<'_>) -> Option<Call<P>> {
     match tokens.next()? {
         "network" => network_vote_from(tokens),
-        "constructed" => Some(Call::ConstructedVote(vote_from(tokens)?)),
+        "constructed" => constructed_vote_from(tokens),
         "certificate" => certificate_from(tokens),
         "leader" => Some(Call::Leader(tokens.u32()?)),
         "forward" => forward_from(tokens),

@@ -11,9 +11,12 @@ use calls::call::Call;
 use calls::records::RECORD;
 use std::alloc::Global;
 
-fn add_record<P: Spoken>(bytes: &mut Vec<u8>, call: &Call<P>) -> Result<(), Failure> {
+fn add_record<P: Spoken>(heap: Global, bytes: &mut Vec<u8>, call: &Call<P>) -> Result<(), Failure> {
     let mut record = [0; RECORD];
-    let _ = calls::records::write(call, &mut record);
+    if let Err(refusal) = calls::records::write(call, &mut record) {
+        let number = refusal.number();
+        return Err(Failure::Message(format!(heap, "a record is refused {number}")?));
+    }
     bytes.extend_from_slice(&record)?;
     Ok(())
 }
@@ -27,7 +30,7 @@ fn records_of<P: Spoken>(heap: Global, path: &str, text: &str) -> Result<Vec<u8>
         }
         let mut tokens = Tokens::new(heap, line)?;
         match line_call::<P>(&mut tokens) {
-            Some(call) => add_record(&mut bytes, &call)?,
+            Some(call) => add_record(heap, &mut bytes, &call)?,
             None => {
                 let number = i.saturating_add(1);
                 return Err(Failure::Message(format!(heap, "{path} line {number} is no call: {line}")?));
