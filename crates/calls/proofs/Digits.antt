@@ -32,7 +32,7 @@ pub small-fits : (w i n x : ℕ) → 0 < i → i ≤ w → w ≤ 8 → n < 256 ^
 small-fits w i n x p q e h l =
     let s : n * 256 + x < 256 ^ (w - (i - 1)) = small-more w i n x p q h l in
     let m : 256 ^ (w - (i - 1)) ≤ 256 ^ 8 =
-        let a : 0 < 256 = omega arith in let b : w - (i - 1) ≤ 8 = omega arith in pow-le-pow-right a b in
+    let a : 0 < 256 = omega arith in let b : w - (i - 1) ≤ 8 = omega arith in pow-le-pow-right a b in
     omega arith
 
 -- one byte more behind

@@ -19,9 +19,10 @@ Bytes b = (k : ℕ) → getD b k 0 < 256
 
 part-bytes : (b : List ℕ) → Bytes b → (at w : ℕ) → Bytes (take w (drop at b))
 part-bytes b h at w k =
-    elim (cases-lt k w)
-    [ inl l ↦ rw (getD-take w (drop at b) k 0 l, getD-drop at b k 0) (h (at + k))
-    | inr l ↦ rw (getD-past (take w (drop at b)) k 0 (omega (arith, length-take w (drop at b)))) (omega arith) ]
+    elim (cases-lt k w) [
+      | inl l ↦ rw (getD-take w (drop at b) k 0 l, getD-drop at b k 0) (h (at + k))
+      | inr l ↦ rw (getD-past (take w (drop at b)) k 0 (omega (arith, length-take w (drop at b)))) (omega arith)
+    ]
 
 -- what is read of a part is written as that part
 piece : (b : List ℕ) → Bytes b → (at w : ℕ) → at + w ≤ length b → bytesOf w (numberAt at w b) ≡ take w (drop at b)
@@ -52,19 +53,37 @@ rounds-are r s a b =
 pub words-are : (v w : Words) → v .w1 ≡ w .w1 → v .w2 ≡ w .w2 → v .w3 ≡ w .w3 → v .w4 ≡ w .w4 → v ≡ w
 words-are v w a b c d =
     let q : _≡_ {A = Words} (record { w1 = v .w1; w2 = v .w2; w3 = v .w3; w4 = v .w4 })
-            (record { w1 = w .w1; w2 = w .w2; w3 = w .w3; w4 = w .w4 }) = cc in q
+    (record { w1 = w .w1; w2 = w .w2; w3 = w .w3; w4 = w .w4 }) = cc in q
 
 pub fields-are : (f g : Fields) → f .call ≡ g .call → f .kind ≡ g .kind → f .gap ≡ g .gap → f .key ≡ g .key →
     f .participant ≡ g .participant → f .space ≡ g .space → f .round ≡ g .round → f .parent ≡ g .parent →
     f .words ≡ g .words → f .signature ≡ g .signature → f ≡ g
 fields-are f g a b c d e h i j k l =
     let q : _≡_ {A = Fields}
-            (record
-            { call = f .call; kind = f .kind; gap = f .gap; key = f .key; participant = f .participant; space = f .space
-            ; round = f .round; parent = f .parent; words = f .words; signature = f .signature })
-            (record
-            { call = g .call; kind = g .kind; gap = g .gap; key = g .key; participant = g .participant; space = g .space
-            ; round = g .round; parent = g .parent; words = g .words; signature = g .signature }) = cc in q
+    (record {
+      call = f .call;
+      kind = f .kind;
+      gap = f .gap;
+      key = f .key;
+      participant = f .participant;
+      space = f .space;
+      round = f .round;
+      parent = f .parent;
+      words = f .words;
+      signature = f .signature;
+    })
+    (record {
+      call = g .call;
+      kind = g .kind;
+      gap = g .gap;
+      key = g .key;
+      participant = g .participant;
+      space = g .space;
+      round = g .round;
+      parent = g .parent;
+      words = g .words;
+      signature = g .signature;
+    }) = cc in q
 
 -- each field is read back from the bytes that hold it
 pub fields-of-layout : (f : Fields) (rest : List ℕ) →

@@ -105,9 +105,18 @@ cleared u f h =
     let a = and-parts (clearInFront u f) (clearBehind u f) h in
     let b = and-parts _ _ (a .0) in let c = and-parts _ _ (b .1) in let d = and-parts _ _ (c .1) in let e = and-parts _ _ (d .1) in
     let i = and-parts _ _ (a .1) in let j = and-parts _ _ (i .1) in let k = and-parts _ _ (j .1) in let l = and-parts _ _ (k .1) in
-    record
-    { kind = b .0; gap = sym (eqb-true (f .gap) 0 (c .0)); key = d .0; participant = e .0; space = sym (eqb-true (f .space) 0 (e .1))
-    ; epoch = i .0; view = j .0; parent = k .0; payload = l .0; signature = l .1 }
+    record {
+      kind = b .0;
+      gap = sym (eqb-true (f .gap) 0 (c .0));
+      key = d .0;
+      participant = e .0;
+      space = sym (eqb-true (f .space) 0 (e .1));
+      epoch = i .0;
+      view = j .0;
+      parent = k .0;
+      payload = l .0;
+      signature = l .1;
+    }
 
 zeroed : (n : ℕ) → blank false n ≡ true → 0 ≡ n
 zeroed n h = sym (eqb-true n 0 h)
@@ -115,9 +124,18 @@ zeroed n h = sym (eqb-true n 0 h)
 -- a record of which only the call and the participant may be other than zero
 abbrev plain : ℕ → ℕ → Fields
 plain n i =
-    record
-    { call = n; kind = 0; gap = 0; key = 0; participant = i; space = 0; round = record { epoch = 0; view = 0 }; parent = 0
-    ; words = noWords; signature = 0 }
+    record {
+      call = n;
+      kind = 0;
+      gap = 0;
+      key = 0;
+      participant = i;
+      space = 0;
+      round = record { epoch = 0; view = 0 };
+      parent = 0;
+      words = noWords;
+      signature = 0;
+    }
 
 plainly : (f : Fields) (n i : ℕ) (p : Bool) → f .call ≡ n → i ≡ f .participant →
     Cleared (record { kind = false; key = false; participant = p; round = false; proposal = false; signature = false }) f → plain n i ≡ f
@@ -168,7 +186,7 @@ module _ {P : Type 0} (words : P → Words) (named : Words → Option P) (sound 
       let e : call.NetworkVote (f .key) (signed f (n .0)) ≡ c = cc in
       subst (λ t. fieldsOf words t ≡ f) e
       (fields-are (fieldsOf words (call.NetworkVote (f .key) (signed f (n .0)))) f (sym a) (q .kind ∙ sym b) (u .gap) refl refl
-       (u .space) (q .round) (q .parent) (q .payload) refl)
+      (u .space) (q .round) (q .parent) (q .payload) refl)
   shaped (ConstructedVote k) f c a b u h =
       let m = from-mapped call.ConstructedVote (voteFrom named k f) c h in
       let n = from-mapped (signed f) (subjectFrom named k f) (m .0) (m .1) in
@@ -176,13 +194,13 @@ module _ {P : Type 0} (words : P → Words) (named : Words → Option P) (sound 
       let e : call.ConstructedVote (signed f (n .0)) ≡ c = cc in
       subst (λ t. fieldsOf words t ≡ f) e
       (fields-are (fieldsOf words (call.ConstructedVote (signed f (n .0)))) f (sym a) (q .kind ∙ sym b) (u .gap) (zeroed (f .key) (u .key)) refl
-       (u .space) (q .round) (q .parent) (q .payload) refl)
+      (u .space) (q .round) (q .parent) (q .payload) refl)
   shaped (Certificate k) f c a b u h =
       let m = from-mapped call.Certificate (subjectFrom named k f) c h in
       let q = subjected k f (m .0) (m .1) (u .parent) (u .payload) in
       subst (λ t. fieldsOf words t ≡ f) (m .2)
       (fields-are (fieldsOf words (call.Certificate (m .0))) f (sym a) (q .kind ∙ sym b) (u .gap) (zeroed (f .key) (u .key))
-       (zeroed (f .participant) (u .participant)) (u .space) (q .round) (q .parent) (q .payload) (zeroed (f .signature) (u .signature)))
+      (zeroed (f .participant) (u .participant)) (u .space) (q .round) (q .parent) (q .payload) (zeroed (f .signature) (u .signature)))
   shaped Leader f c a b u h =
       let e : call.Leader (f .participant) ≡ c = cc in
       subst (λ t. fieldsOf words t ≡ f) e (plainly f 4 (f .participant) true a refl u)
@@ -197,7 +215,7 @@ module _ {P : Type 0} (words : P → Words) (named : Words → Option P) (sound 
       let q = proposed f (m .0) (named (f .words)) refl (m .1) in
       subst (λ t. fieldsOf words t ≡ f) (m .2)
       (fields-are (fieldsOf words (call.MissingVoters (m .0))) f (sym a) (zeroed (f .kind) (u .kind)) (u .gap) (zeroed (f .key) (u .key))
-       (zeroed (f .participant) (u .participant)) (u .space) (q .0) (q .1) (q .2) (zeroed (f .signature) (u .signature)))
+      (zeroed (f .participant) (u .participant)) (u .space) (q .0) (q .1) (q .2) (zeroed (f .signature) (u .signature)))
 
   checked : (s : Shape) (f : Fields) (c : Call P) (b : Bool) → shapeNamed (f .call) (f .kind) ≡ Some s → clear (usedBy s) f ≡ b →
       cond b (callFrom named s f) (Err UnusedByte) ≡ Ok c → fieldsOf words c ≡ f

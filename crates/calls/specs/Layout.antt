@@ -20,13 +20,18 @@ bytesOf width n = digitsL 256 width n
 -- the fields that a record's bytes hold
 abbrev pub fieldsIn : List ℕ → Fields
 fieldsIn b =
-    record
-    { call = numberAt 0 1 b; kind = numberAt 1 1 b; gap = numberAt 2 6 b; key = numberAt 8 8 b
-    ; participant = numberAt 16 4 b; space = numberAt 20 4 b
-    ; round = record { epoch = numberAt 24 8 b; view = numberAt 32 8 b }
-    ; parent = numberAt 40 8 b
-    ; words = record { w1 = numberAt 48 8 b; w2 = numberAt 56 8 b; w3 = numberAt 64 8 b; w4 = numberAt 72 8 b }
-    ; signature = numberAt 80 8 b }
+    record {
+      call = numberAt 0 1 b;
+      kind = numberAt 1 1 b;
+      gap = numberAt 2 6 b;
+      key = numberAt 8 8 b;
+      participant = numberAt 16 4 b;
+      space = numberAt 20 4 b;
+      round = record { epoch = numberAt 24 8 b; view = numberAt 32 8 b };
+      parent = numberAt 40 8 b;
+      words = record { w1 = numberAt 48 8 b; w2 = numberAt 56 8 b; w3 = numberAt 64 8 b; w4 = numberAt 72 8 b };
+      signature = numberAt 80 8 b;
+    }
 
 -- the 88 bytes that hold these fields
 abbrev pub layout : Fields → List ℕ

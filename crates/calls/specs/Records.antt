@@ -128,11 +128,18 @@ module _ {P : Type 0} (words : P → Words) where
   -- the fields that a call is written as: zero where it has nothing to say
   abbrev pub fieldsOf : Call P → Fields
   fieldsOf c =
-      record
-      { call = callNumber c; kind = valueOr (mapped (λ s. kindNumber (kindOf s)) (subjectOf c)) 0; gap = 0; key = keyIn c
-      ; participant = participantIn c; space = 0; round = roundIn c
-      ; parent = valueOr (mapped (λ p. p .parent) (proposalOf c)) 0
-      ; words = valueOr (mapped (λ p. words (p .payload)) (proposalOf c)) noWords; signature = signatureIn c }
+      record {
+        call = callNumber c;
+        kind = valueOr (mapped (λ s. kindNumber (kindOf s)) (subjectOf c)) 0;
+        gap = 0;
+        key = keyIn c;
+        participant = participantIn c;
+        space = 0;
+        round = roundIn c;
+        parent = valueOr (mapped (λ p. p .parent) (proposalOf c)) 0;
+        words = valueOr (mapped (λ p. words (p .payload)) (proposalOf c)) noWords;
+        signature = signatureIn c;
+      }
 
   -- the 88 bytes that a call is written as
   abbrev pub writtenOf : Call P → List ℕ

@@ -6,11 +6,11 @@ use values::same::same_proposal;
 use values::same::same_subject;
 use values::same::same_vote;
 use values::types::Proposal;
+use values::types::ProposalClone;
 use values::types::Rnd;
 use values::types::Subject;
-use values::types::Vote;
-use values::types::ProposalClone;
 use values::types::SubjectClone;
+use values::types::Vote;
 use values::types::VoteClone;
 
 // What a round is asked.

@@ -51,7 +51,10 @@ impl Fields {
             key: number_at(bytes, 8, 8),
             participant: number_at(bytes, 16, 4) as u32,
             space: number_at(bytes, 20, 4) as u32,
-            round: Rnd { epoch: number_at(bytes, 24, 8), view: number_at(bytes, 32, 8) },
+            round: Rnd {
+                epoch: number_at(bytes, 24, 8),
+                view: number_at(bytes, 32, 8),
+            },
             parent: number_at(bytes, 40, 8),
             words: words_at(bytes),
             signature: number_at(bytes, 80, 8),

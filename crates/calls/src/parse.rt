@@ -18,7 +18,11 @@ impl Fields {
         ensures { λ r. ⌜ r ≡ proposalFrom named (now (self .entry)) ⌝ }
     {
         match P::from_words(self.words) {
-            Some(payload) => Ok(Proposal { round: self.round, parent: self.parent, payload }),
+            Some(payload) => Ok(Proposal {
+                round: self.round,
+                parent: self.parent,
+                payload,
+            }),
             None => Err(Refusal::NotPayload),
         }
     }
@@ -36,8 +40,14 @@ impl Fields {
     fn vote<P: Payload>(&self, kind: Kind) -> Result<Vote<P>, Refusal>
         ensures { λ r. ⌜ r ≡ voteFrom named kind (now (self .entry)) ⌝ }
     {
-        let attestation = Attestation { signer: self.participant, signature: self.signature };
-        Ok(Vote { subject: self.subject(kind)?, attestation })
+        let attestation = Attestation {
+            signer: self.participant,
+            signature: self.signature,
+        };
+        Ok(Vote {
+            subject: self.subject(kind)?,
+            attestation,
+        })
     }
 
     fn call_of<P: Payload>(&self, shape: Shape) -> Result<Call<P>, Refusal>
@@ -78,7 +88,15 @@ impl Fields {
         };
         let (parent, words) = match call.proposal() {
             Some(proposal) => (proposal.parent, proposal.payload.to_words()),
-            None => (0, Words { w1: 0, w2: 0, w3: 0, w4: 0 }),
+            None => (
+                0,
+                Words {
+                    w1: 0,
+                    w2: 0,
+                    w3: 0,
+                    w4: 0,
+                },
+            ),
         };
         Fields {
             call: call.number(),

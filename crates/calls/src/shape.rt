@@ -61,7 +61,8 @@ impl Shape {
         ensures { λ r. ⌜ r ≡ usedBy self .proposal ⌝ }
     {
         match self {
-            Shape::NetworkVote(kind) | Shape::ConstructedVote(kind) | Shape::Certificate(kind) => !matches!(kind, Kind::Nullify),
+            Shape::NetworkVote(kind) | Shape::ConstructedVote(kind) | Shape::Certificate(kind) =>
+                !matches!(kind, Kind::Nullify),
             Shape::Leader | Shape::Forward | Shape::Attempt => false,
             Shape::MissingVoters => true,
         }

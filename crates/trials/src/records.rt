@@ -166,12 +166,18 @@ fn question(w1: u64, w2: u64, w3: u64, w4: u64) -> [u8; 88] {
 #[test]
 fn block_names_have_limits() -> Result<(), Fail> {
     check_eq(refused::<BlockName>(&question(0, 0, 0, 0)), 0)?;
-    check_eq(refused::<BlockName>(&question(0xffff, u64::MAX, 0xffff_ffff, 0)), 0)?;
+    check_eq(
+        refused::<BlockName>(&question(0xffff, u64::MAX, 0xffff_ffff, 0)),
+        0,
+    )?;
     check_eq(refused::<BlockName>(&question(0x1_0000, 0, 0, 0)), 13)?;
     check_eq(refused::<BlockName>(&question(0, 0, 0x1_0000_0000, 0)), 13)?;
     check_eq(refused::<BlockName>(&question(0, 0, 0, 1)), 13)?;
     check_eq(refused::<BlockName>(&question(0, 0, 0, u64::MAX)), 13)?;
-    check_eq(refused::<Digest>(&question(u64::MAX, u64::MAX, u64::MAX, u64::MAX)), 0)
+    check_eq(
+        refused::<Digest>(&question(u64::MAX, u64::MAX, u64::MAX, u64::MAX)),
+        0,
+    )
 }
 
 #[test]

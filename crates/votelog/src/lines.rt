@@ -50,7 +50,10 @@ fn vote_words<P: Spoken>(heap: Global, vote: &Vote<P>) -> Result<String, AllocEr
     let Attestation { signer, signature } = vote.attestation;
     let kind = vote_name(vote.subject.kind());
     let subject = subject_words(heap, &vote.subject)?;
-    format!(heap, "signer {signer} {kind} {subject} signature {signature}")
+    format!(
+        heap,
+        "signer {signer} {kind} {subject} signature {signature}"
+    )
 }
 
 // A call in words.
@@ -92,7 +95,11 @@ fn proposal_from<P: Spoken>(tokens: &mut Tokens<'_>) -> Option<Proposal<P>> {
     tokens.word("parent")?;
     let parent = tokens.u64()?;
     let payload = P::from_tokens(tokens)?;
-    Some(Proposal { round, parent, payload })
+    Some(Proposal {
+        round,
+        parent,
+        payload,
+    })
 }
 
 fn subject_from<P: Spoken>(tokens: &mut Tokens<'_>, kind: Kind) -> Option<Subject<P>> {
@@ -128,7 +135,10 @@ fn vote_from<P: Spoken>(tokens: &mut Tokens<'_>) -> Option<Vote<P>> {
     let subject = subject_from(tokens, kind)?;
     tokens.word("signature")?;
     let signature = tokens.u64()?;
-    Some(Vote { subject, attestation: Attestation { signer, signature } })
+    Some(Vote {
+        subject,
+        attestation: Attestation { signer, signature },
+    })
 }
 
 fn network_vote_from<P: Spoken>(tokens: &mut Tokens<'_>) -> Option<Call<P>> {

@@ -9,14 +9,14 @@ mod reasons;
 mod showing;
 mod writing;
 
+use crate::failure::FailureFromOutput;
+use crate::payloads::BlockNameSpoken;
+use crate::payloads::DigestSpoken;
 use failure::Failure;
 use options::Command;
 use options::PayloadKind;
 use values::payload::BlockName;
 use values::payload::Digest;
-use crate::failure::FailureFromOutput;
-use crate::payloads::BlockNameSpoken;
-use crate::payloads::DigestSpoken;
 
 const HELP: &str = "votelog: files of vote-counting calls, in words and as records
 
@@ -36,10 +36,26 @@ fn run(rt: &LibcRuntime) -> Result<(), Failure> {
     match options::asked(rt)? {
         Command::Help => Ok(rt.println(HELP)?),
         Command::Version => Ok(rt.println("votelog 0.1.0")?),
-        Command::Show(calls, keys, PayloadKind::Digest) => showing::show::<Digest>(rt, calls.as_str(), &keys),
-        Command::Show(calls, keys, PayloadKind::Block) => showing::show::<BlockName>(rt, calls.as_str(), &keys),
-        Command::Write(lines, calls, PayloadKind::Digest) => writing::write::<Digest>(rt, lines.as_str(), calls.as_str()),
-        Command::Write(lines, calls, PayloadKind::Block) => writing::write::<BlockName>(rt, lines.as_str(), calls.as_str()),
+        Command::Show(calls, keys, PayloadKind::Digest) => showing::show::<Digest>(
+            rt,
+            calls.as_str(),
+            &keys,
+        ),
+        Command::Show(calls, keys, PayloadKind::Block) => showing::show::<BlockName>(
+            rt,
+            calls.as_str(),
+            &keys,
+        ),
+        Command::Write(lines, calls, PayloadKind::Digest) => writing::write::<Digest>(
+            rt,
+            lines.as_str(),
+            calls.as_str(),
+        ),
+        Command::Write(lines, calls, PayloadKind::Block) => writing::write::<BlockName>(
+            rt,
+            lines.as_str(),
+            calls.as_str(),
+        ),
     }
 }
 

@@ -53,7 +53,13 @@ fn awaited_name(awaited: Awaited) -> &'static str {
 
 impl Words {
     fn new(heap: Global) -> Words {
-        Words { files: Vec::new(heap), keys: None, payload: None, awaited: None, help: false }
+        Words {
+            files: Vec::new(heap),
+            keys: None,
+            payload: None,
+            awaited: None,
+            help: false,
+        }
     }
 
     fn given(&self, awaited: Awaited) -> bool {
@@ -96,7 +102,9 @@ impl Words {
             "--payload" => return self.option(heap, Awaited::Payload),
             _ => {
                 if word.starts_with("-") {
-                    return Err(Failure::Message(format!(heap, "unknown option {word}; votelog --help lists them")?));
+                    return Err(Failure::Message(
+                        format!(heap, "unknown option {word}; votelog --help lists them")?,
+                    ));
                 }
                 self.files.push(String::from_str(heap, word)?)?;
             }
@@ -116,21 +124,41 @@ impl Words {
 }
 
 fn show_command(heap: Global, words: Words) -> Result<Command, Failure> {
-    let Words { mut files, keys, payload, .. } = words;
+    let Words {
+        mut files,
+        keys,
+        payload,
+        ..
+    } = words;
     match (files.pop(), files.pop()) {
-        (Some(calls), None) => Ok(Command::Show(calls, keys, payload.unwrap_or(PayloadKind::Digest))),
+        (Some(calls), None) => Ok(Command::Show(
+            calls,
+            keys,
+            payload.unwrap_or(PayloadKind::Digest),
+        )),
         _ => Err(Failure::Message(String::from_str(heap, "show takes one file, CALLS")?)),
     }
 }
 
 fn write_command(heap: Global, words: Words) -> Result<Command, Failure> {
-    let Words { mut files, keys, payload, .. } = words;
+    let Words {
+        mut files,
+        keys,
+        payload,
+        ..
+    } = words;
     if keys.is_some() {
         return Err(Failure::Message(String::from_str(heap, "write takes no --keys")?));
     }
     match (files.pop(), files.pop(), files.pop()) {
-        (Some(calls), Some(lines), None) => Ok(Command::Write(lines, calls, payload.unwrap_or(PayloadKind::Digest))),
-        _ => Err(Failure::Message(String::from_str(heap, "write takes two files, LINES and CALLS")?)),
+        (Some(calls), Some(lines), None) => Ok(Command::Write(
+            lines,
+            calls,
+            payload.unwrap_or(PayloadKind::Digest),
+        )),
+        _ => Err(Failure::Message(
+            String::from_str(heap, "write takes two files, LINES and CALLS")?,
+        )),
     }
 }
 
@@ -141,7 +169,9 @@ fn named(heap: Global, name: &str, words: Words) -> Result<Command, Failure> {
     match name {
         "show" => show_command(heap, words),
         "write" => write_command(heap, words),
-        _ => Err(Failure::Message(format!(heap, "unknown command {name}; votelog --help lists them")?)),
+        _ => Err(Failure::Message(
+            format!(heap, "unknown command {name}; votelog --help lists them")?,
+        )),
     }
 }
 
@@ -158,7 +188,9 @@ pub(crate) fn asked(rt: &LibcRuntime) -> Result<Command, Failure> {
     let heap = rt.alloc();
     let all = arguments(rt)?;
     let Some(name) = all.first() else {
-        return Err(Failure::Message(String::from_str(heap, "no command; votelog --help lists them")?));
+        return Err(Failure::Message(
+            String::from_str(heap, "no command; votelog --help lists them")?,
+        ));
     };
     let mut words = Words::new(heap);
     for word in all.iter().skip(1) {

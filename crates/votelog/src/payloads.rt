@@ -32,7 +32,11 @@ pub impl Spoken for Digest as DigestSpoken {
 
 pub impl Spoken for BlockName as BlockNameSpoken {
     fn in_words(&self, heap: Global) -> Result<String, AllocError> {
-        let BlockName { sledge, second, ordinal } = *self;
+        let BlockName {
+            sledge,
+            second,
+            ordinal,
+        } = *self;
         format!(heap, "sledge {sledge} second {second} ordinal {ordinal}")
     }
 
@@ -43,6 +47,10 @@ pub impl Spoken for BlockName as BlockNameSpoken {
         let second = tokens.u64()?;
         tokens.word("ordinal")?;
         let ordinal = tokens.u32()?;
-        Some(BlockName { sledge, second, ordinal })
+        Some(BlockName {
+            sledge,
+            second,
+            ordinal,
+        })
     }
 }

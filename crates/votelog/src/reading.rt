@@ -10,7 +10,10 @@ pub struct Tokens<'a> {
 
 impl<'a> Tokens<'a> {
     pub(crate) fn new(heap: Global, line: &'a str) -> Result<Tokens<'a>, AllocError> {
-        Ok(Tokens { words: line.split_whitespace().collect(heap)?, at: 0 })
+        Ok(Tokens {
+            words: line.split_whitespace().collect(heap)?,
+            at: 0,
+        })
     }
 
     pub(crate) fn next(&mut self) -> Option<&'a str> {
@@ -21,7 +24,11 @@ impl<'a> Tokens<'a> {
 
     // The next word, where it is this one.
     pub(crate) fn word(&mut self, expected: &str) -> Option<()> {
-        if self.next()? == expected { Some(()) } else { None }
+        if self.next()? == expected {
+            Some(())
+        } else {
+            None
+        }
     }
 
     // The next word as a number, which has digits alone.

@@ -55,15 +55,38 @@ impl Totals {
     }
 
     fn tell<W: Write>(&self, out: &mut W, records: usize) -> io::Result<()> {
-        let Totals { network_votes, constructed_votes, certificates, .. } = *self;
-        let Totals { leaders, forwards, attempts, missing_voters, refused, .. } = *self;
+        let Totals {
+            network_votes,
+            constructed_votes,
+            certificates,
+            ..
+        } = *self;
+        let Totals {
+            leaders,
+            forwards,
+            attempts,
+            missing_voters,
+            refused,
+            ..
+        } = *self;
         writeln!(out, "records {records}, refused {refused}")?;
-        writeln!(out, "network votes {network_votes}, constructed votes {constructed_votes}, certificates {certificates}")?;
-        writeln!(out, "leaders {leaders}, forwards {forwards}, attempts {attempts}, missing voters {missing_voters}")
+        writeln!(
+            out,
+            "network votes {network_votes}, constructed votes {constructed_votes}, certificates {certificates}"
+        )?;
+        writeln!(
+            out,
+            "leaders {leaders}, forwards {forwards}, attempts {attempts}, missing voters {missing_voters}"
+        )
     }
 }
 
-fn tell_record<P: Spoken, W: Write>(heap: Global, out: &mut W, i: usize, read: &Result<Call<P>, Refusal>) -> Result<(), Failure> {
+fn tell_record<P: Spoken, W: Write>(
+    heap: Global,
+    out: &mut W,
+    i: usize,
+    read: &Result<Call<P>, Refusal>,
+) -> Result<(), Failure> {
     match read {
         Ok(call) => {
             let words = call_words(heap, call)?;
@@ -78,7 +101,11 @@ fn tell_record<P: Spoken, W: Write>(heap: Global, out: &mut W, i: usize, read: &
     Ok(())
 }
 
-fn tell_records<P: Spoken, W: Write>(heap: Global, out: &mut W, bytes: &[u8]) -> Result<(), Failure> {
+fn tell_records<P: Spoken, W: Write>(
+    heap: Global,
+    out: &mut W,
+    bytes: &[u8],
+) -> Result<(), Failure> {
     let mut totals = Totals::NONE;
     let mut records = 0usize;
     for (i, record) in bytes.chunks(RECORD).enumerate() {
@@ -112,7 +139,12 @@ fn tell_directory<W: Write>(out: &mut W, keys: &[u64]) -> Result<(), Failure> {
     }
 }
 
-fn tell_all<P: Spoken, W: Write>(heap: Global, out: &mut W, keys: &Option<Vec<u64>>, bytes: &[u8]) -> Result<(), Failure> {
+fn tell_all<P: Spoken, W: Write>(
+    heap: Global,
+    out: &mut W,
+    keys: &Option<Vec<u64>>,
+    bytes: &[u8],
+) -> Result<(), Failure> {
     if let Some(keys) = keys {
         tell_directory(out, keys.as_slice())?;
     }
@@ -120,14 +152,23 @@ fn tell_all<P: Spoken, W: Write>(heap: Global, out: &mut W, keys: &Option<Vec<u6
 }
 
 // Prints the records of a file in words, under the directory if there is one.
-pub(crate) fn show<P: Spoken>(rt: &LibcRuntime, calls: &str, keys: &Option<String>) -> Result<(), Failure> {
+pub(crate) fn show<P: Spoken>(
+    rt: &LibcRuntime,
+    calls: &str,
+    keys: &Option<String>,
+) -> Result<(), Failure> {
     let bytes = bytes_of(rt, calls)?;
     let keys = match keys {
         Some(path) => Some(keys_of(rt, path.as_str())?),
         None => None,
     };
     let mut out = io::BufWriter::new(rt.stdout());
-    let told = tell_all::<P, io::BufWriter<io::Stdout>>(rt.alloc(), &mut out, &keys, bytes.as_slice());
+    let told = tell_all::<P, io::BufWriter<io::Stdout>>(
+        rt.alloc(),
+        &mut out,
+        &keys,
+        bytes.as_slice(),
+    );
     out.flush()?;
     told
 }

@@ -33,7 +33,9 @@ fn records_of<P: Spoken>(heap: Global, path: &str, text: &str) -> Result<Vec<u8>
             Some(call) => add_record(heap, &mut bytes, &call)?,
             None => {
                 let number = i.saturating_add(1);
-                return Err(Failure::Message(format!(heap, "{path} line {number} is no call: {line}")?));
+                return Err(Failure::Message(
+                    format!(heap, "{path} line {number} is no call: {line}")?,
+                ));
             }
         }
     }

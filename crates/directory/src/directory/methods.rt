@@ -51,7 +51,7 @@ impl Directory {
     pub fn quorum(&self) -> u32
         ensures { λ r. ⌜ r ≡ quorum (length (keysOf (now (self .entry)))) ⌝ }
     {
-        self.count - self.faults()
+        self.size() - self.faults()
     }
 
     // The key of a participant, by its number.
