@@ -33,9 +33,10 @@ pub fn write<P: Payload>(call: &Call<P>, bytes: &mut [u8]) -> Result<(), Refusal
     ensures back { λ r. ⌜ made r (λ _. readOf named (now (bytes .exit)) ≡ Ok (now (call .entry))) ⌝ }
 {
     if bytes.len() < RECORD {
-        return Err(Refusal::ShortRecord);
+        Err(Refusal::ShortRecord)
+    } else {
+        let record = Fields::from_call(call).to_bytes();
+        bytes[0..RECORD].copy_from_slice(&record);
+        Ok(())
     }
-    let record = Fields::from_call(call).to_bytes();
-    bytes[0..RECORD].copy_from_slice(&record);
-    Ok(())
 }

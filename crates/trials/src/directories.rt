@@ -53,10 +53,9 @@ fn check_places(directory: &Directory) -> Result<(), Fail> {
     check_eq(directory.index(44), Some(3))?;
     check_eq(directory.index(45), None)?;
     check_eq(directory.index(0), None)?;
-    check_eq(directory.key(0), Some(11))?;
-    check_eq(directory.key(3), Some(44))?;
-    check_eq(directory.key(4), None)?;
-    check_eq(directory.key(u32::MAX), None)
+    check_eq(directory.keys().first().copied(), Some(11))?;
+    check_eq(directory.keys().last().copied(), Some(44))?;
+    check_eq(directory.keys().len(), 4)
 }
 
 #[test]

@@ -62,6 +62,10 @@ impl Words {
         }
     }
 
+    fn is_empty(&self) -> bool {
+        self.files.is_empty() && self.keys.is_none() && self.payload.is_none() && !self.help
+    }
+
     fn given(&self, awaited: Awaited) -> bool {
         match awaited {
             Awaited::Keys => self.keys.is_some(),
@@ -162,15 +166,24 @@ fn write_command(heap: Global, words: Words) -> Result<Command, Failure> {
     }
 }
 
-fn named(heap: Global, name: &str, words: Words) -> Result<Command, Failure> {
-    if words.help {
-        return Ok(Command::Help);
+// A command that takes no words.
+fn alone(heap: Global, name: &str, words: &Words, command: Command) -> Result<Command, Failure> {
+    if words.is_empty() {
+        return Ok(command);
     }
+    Err(Failure::Message(format!(heap, "{name} takes no other words",)?))
+}
+
+fn named(heap: Global, name: &str, words: Words) -> Result<Command, Failure> {
     match name {
+        "--help" => alone(heap, name, &words, Command::Help),
+        "--version" => alone(heap, name, &words, Command::Version),
+        "show" if words.help => Ok(Command::Help),
         "show" => show_command(heap, words),
+        "write" if words.help => Ok(Command::Help),
         "write" => write_command(heap, words),
         _ => Err(Failure::Message(
-            format!(heap, "unknown command {name}; votelog --help lists them")?,
+            format!(heap, "unknown command {name}; votelog --help lists them",)?,
         )),
     }
 }
@@ -197,9 +210,5 @@ pub(crate) fn asked(rt: &LibcRuntime) -> Result<Command, Failure> {
         words.take(heap, word.as_str())?;
     }
     words.end(heap)?;
-    match name.as_str() {
-        "--help" => Ok(Command::Help),
-        "--version" => Ok(Command::Version),
-        other => named(heap, other, words),
-    }
+    named(heap, name.as_str(), words)
 }

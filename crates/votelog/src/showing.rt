@@ -125,7 +125,7 @@ fn tell_directory<W: Write>(out: &mut W, keys: &[u64]) -> Result<(), Failure> {
             let f = directory.faults();
             let quorum = directory.quorum();
             writeln!(out, "participants {n}, f {f}, quorum {quorum}")?;
-            for (i, key) in keys.iter().enumerate() {
+            for (i, key) in directory.keys().iter().enumerate() {
                 writeln!(out, "participant {i} key {key}")?;
             }
             Ok(())

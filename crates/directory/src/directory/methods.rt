@@ -3,7 +3,6 @@ ghost use mathlib.Core.Path.{_≡_};
 ghost use lib.ListN.{length};
 ghost use Rattle.directory.specs.Directories.{keysOf, faults, quorum, directoryOf, placeOf};
 ghost use Rattle.std.specs.Results.{mapped};
-ghost use Rattle.std.specs.shelf.Maps.{nth};
 use crate::directory::Directory;
 use values::refusal::Refusal;
 
@@ -54,15 +53,11 @@ impl Directory {
         self.size() - self.faults()
     }
 
-    // The key of a participant, by its number.
-    pub fn key(&self, number: u32) -> Option<u64>
-        ensures { λ r. ⌜ r ≡ nth (keysOf (now (self .entry))) number ⌝ }
+    // The participants' keys, in the order of their numbers.
+    pub fn keys(&self) -> &[u64]
+        ensures { λ r. ⌜ now r ≡ keysOf (now (self .entry)) ⌝ }
     {
-        if number < self.count {
-            Some(self.keys[number as usize])
-        } else {
-            None
-        }
+        &self.keys[0..self.count as usize]
     }
 
     // The number of a participant, by its key.

@@ -11,8 +11,8 @@ use Rattle.calls.specs.Layout.{fieldsIn, layout}
 use Rattle.calls.specs.Records.{readFields, writtenOf}
 use Rattle.calls.proofs.records.write.Needs as need
 
-pub returns : need.returns
-returns g c =
+pub returns-else-bytes-lt-RECORD : need.returns-else-bytes-lt-RECORD
+returns-else-bytes-lt-RECORD g c =
     let b = c .args .bytes .now in
     let named = g .P·Payload .named in
     let w = writtenOf (g .P·Payload .words) (c .args .call .now) in

@@ -12,7 +12,7 @@ pub returns-then-last-key : need.returns-then-last-key
 returns-then-last-key c =
     let l = c .args .keys .now in
     directory-order l (c .if-n-eq0 .left) (c .if-n-gt64 .left)
-    (sym (c .loop-i .inv .0) ∙ ascends-not l (c .loop-i .i) (c .loop-i .last) (c .loop-i-test .taken) (c .if-last-key .taken))
+    (sym (c .loop-i .inv .0) ∙ ascends-not l (c .loop-i .i) (c .loop-i .last) (c .loop-i-test .taken) (omega arith))
 
 pub loop-i-again : need.loop-i-again
 loop-i-again c =
@@ -23,7 +23,7 @@ loop-i-again c =
     let h : i < length t = omega arith in
     let b : getD t (i - 1) 0 < x = omega (arith, c .loop-i .inv .3) in
     let z : i + 1 - 1 ≡ i = omega arith in (
-      sym (ascends-on l i (c .loop-i .last) (c .loop-i-test .taken) (c .if-last-key .left)) ∙ c .loop-i .inv .0,
+      sym (ascends-on l i (c .loop-i .last) (c .loop-i-test .taken) (omega arith)) ∙ c .loop-i .inv .0,
       take-more-set t i x h ∙ (rw (c .loop-i .inv .1) (sym (take-more l i 0 (c .loop-i-test .taken)))),
       ascends-more t i x (c .loop-i .kept .i) h (c .loop-i .inv .2) b,
       rw z (getD-set-same t i x 0 h),
