@@ -1,12 +1,12 @@
 -- A record's bytes and its fields: each gives the other back.
-use mathlib.Core.Path.{_≡_, refl, sym, ap, subst, _∙_}
+use mathlib.Core.Path.{_≡_, sym, ap, subst, _∙_}
 use mathlib.Core.Logic.{inl, inr}
-use mathlib.Core.List.{List, [], _∷_, _++_}
-use Prim.Native.Nat.{ℕ, zero, suc, _+_, _-_, _*_, _^_, _<_, _≤_}
+use mathlib.Core.List.{List, _++_}
+use Prim.Native.Nat.{ℕ, _+_, _<_, _≤_}
 use native.Mathlib.Omega.{arith}
 use lib.ListN.{length, getD, take, drop}
 use lib.Seq.{getD-take, getD-drop, take-add}
-use Rattle.std.proofs.shelf.Lists.{drop-drop, take-append-drop, length-take, length-drop, getD-past}
+use Rattle.std.proofs.shelf.Lists.{length-take, length-drop, getD-past}
 use Rattle.std.proofs.shelf.Tests.{cases-lt}
 use Rattle.values.specs.declared.payload.Words.{Words}
 use Rattle.values.specs.declared.types.Rnd.{Rnd}

@@ -1,17 +1,16 @@
 -- What reads as a call has that call's fields.
 use mathlib.Core.Path.{_≡_, refl, sym, ap, subst, _∙_}
-use mathlib.Core.Bool.{Bool, true, false, cond, _&&_, _||_}
+use mathlib.Core.Bool.{Bool, true, false, cond, _||_}
 use mathlib.Core.List.{List}
 use Prim.Native.Nat.{ℕ}
 use native.Mathlib.Omega.{arith}
-use lib.Dec.{eqb}
 use Rattle.std.specs.declared.option.Option.{Option}
 use Rattle.std.specs.declared.option.Option.the-variants.{Some, None}
 use Rattle.std.specs.declared.result.Result.{Result}
 use Rattle.std.specs.declared.result.Result.the-variants.{Ok, Err}
 use Rattle.std.specs.Vec.{made}
 use Rattle.std.specs.Results as results
-use Rattle.std.specs.Options.{mapped, okOr, valueOr, Cases}
+use Rattle.std.specs.Options.{mapped, okOr, valueOr}
 use Rattle.std.proofs.shelf.Ways.{tells}
 use Rattle.std.proofs.shelf.Tests.{eqb-true, and-parts}
 use Rattle.values.specs.declared.payload.Words.{Words}
@@ -22,7 +21,7 @@ use Rattle.values.specs.declared.types.Subject.{Subject}
 use Rattle.values.specs.declared.types.Subject.the-variants as subject
 use Rattle.values.specs.declared.types.Vote.{Vote}
 use Rattle.values.specs.declared.refusal.Refusal.{Refusal}
-use Rattle.values.specs.declared.refusal.Refusal.the-variants.{UnknownCall, UnusedByte, NotPayload}
+use Rattle.values.specs.declared.refusal.Refusal.the-variants.{UnusedByte, NotPayload}
 use Rattle.values.specs.Kinds.{kindNumber, kindOf, roundOf}
 use Rattle.calls.specs.declared.call.Call.{Call}
 use Rattle.calls.specs.declared.call.Call.the-variants as call
@@ -30,7 +29,7 @@ use Rattle.calls.specs.declared.fields.Fields.{Fields}
 use Rattle.calls.specs.declared.shape.Shape.{Shape}
 use Rattle.calls.specs.declared.shape.Shape.the-variants.{NetworkVote, ConstructedVote, Certificate, Leader, Forward, Attempt, MissingVoters}
 use Rattle.calls.specs.declared.shape.Used.{Used}
-use Rattle.calls.specs.Calls.{proposalIn, proposalOf}
+use Rattle.calls.specs.Calls.{proposalIn}
 use Rattle.calls.specs.Records.{kindNamed, shapeNamed, carries, usedBy, blank, zeroWords, noWords, clear, clearInFront, clearBehind, proposalFrom, subjectFrom, voteFrom, callFrom, readShape, readFields, fieldsOf, writtenOf}
 use Rattle.calls.specs.Layout.{layout}
 use Rattle.calls.proofs.Laid.{fields-are, rounds-are, words-are}

@@ -1,25 +1,15 @@
 -- Fields and calls: a call's fields read as the call, and what reads as a call has that call's fields.
 use mathlib.Core.Path.{_≡_, refl, sym, ap, subst, _∙_}
-use mathlib.Core.Bool.{Bool, true, false, cond, _&&_, _||_}
-use mathlib.Core.List.{List}
 use Prim.Native.Nat.{ℕ}
-use native.Mathlib.Omega.{arith}
-use lib.Dec.{eqb}
 use Rattle.std.specs.declared.option.Option.{Option}
 use Rattle.std.specs.declared.option.Option.the-variants.{Some, None}
-use Rattle.std.specs.declared.result.Result.{Result}
-use Rattle.std.specs.declared.result.Result.the-variants.{Ok, Err}
-use Rattle.std.specs.Options.{mapped, okOr, valueOr, Cases}
+use Rattle.std.specs.declared.result.Result.the-variants.{Ok}
+use Rattle.std.specs.Options.{Cases}
 use Rattle.values.specs.declared.payload.Words.{Words}
-use Rattle.values.specs.declared.types.Rnd.{Rnd}
-use Rattle.values.specs.declared.types.Kind.{Kind}
-use Rattle.values.specs.declared.types.Kind.the-variants as kind
 use Rattle.values.specs.declared.types.Proposal.{Proposal}
 use Rattle.values.specs.declared.types.Subject.{Subject}
 use Rattle.values.specs.declared.types.Subject.the-variants as subject
 use Rattle.values.specs.declared.types.Attestation.{Attestation}
-use Rattle.values.specs.declared.types.Vote.{Vote}
-use Rattle.values.specs.declared.refusal.Refusal.the-variants.{NotPayload}
 use Rattle.calls.specs.declared.call.Call.{Call}
 use Rattle.calls.specs.declared.call.Call.the-variants as call
 use Rattle.calls.specs.declared.fields.Fields.{Fields}

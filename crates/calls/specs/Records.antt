@@ -29,9 +29,12 @@ use Rattle.calls.specs.declared.shape.Used.{Used}
 use Rattle.calls.specs.Calls.{callNumber, subjectOf, proposalOf, roundIn, keyIn, participantIn, signatureIn}
 use Rattle.calls.specs.Layout.{fieldsIn, layout}
 
--- the kind of a number
+-- the kind that a number names
 abbrev pub kindNamed : ℕ → Option Kind
-kindNamed n = cond (eqb n 1) (Some kind.Notarize) (cond (eqb n 2) (Some kind.Nullify) (cond (eqb n 3) (Some kind.Finalize) None))
+kindNamed n =
+    cond (eqb n (kindNumber kind.Notarize)) (Some kind.Notarize)
+    (cond (eqb n (kindNumber kind.Nullify)) (Some kind.Nullify)
+    (cond (eqb n (kindNumber kind.Finalize)) (Some kind.Finalize) None))
 
 -- the shape of a call's number with a kind's number, which only calls 1 to 3 have
 abbrev pub shapeNamed : ℕ → ℕ → Option Shape

@@ -1,7 +1,7 @@
 ghost use mathlib.Core.List.{_++_};
 ghost use mathlib.Core.Path.{_≡_};
 ghost use Prim.Native.Nat.{_+_, _^_, _<_, _≤_};
-ghost use lib.ListN.{length, take, drop};
+ghost use lib.ListN.{length, take};
 ghost use Rattle.calls.specs.Layout.{numberIn, numberAt, bytesOf};
 
 // The number that `width` bytes from `at` on hold, the lowest byte first.

@@ -15,7 +15,7 @@ use values::refusal::Refusal;
 // How many bytes a record has.
 pub const RECORD: usize = 88;
 
-// The call that the first 88 bytes hold. They are the only bytes that it is written as.
+// The call that the first 88 bytes hold, which is written as these bytes and no others.
 pub fn read<P: Payload>(bytes: &[u8]) -> Result<Call<P>, Refusal>
     ensures value { λ r. ⌜ r ≡ readOf named (now (bytes .entry)) ⌝ }
     ensures only { λ r. ⌜ made r (λ c. writtenOf words c ≡ take 88 (now (bytes .entry))) ⌝ }
@@ -26,7 +26,7 @@ pub fn read<P: Payload>(bytes: &[u8]) -> Result<Call<P>, Refusal>
     Fields::from_bytes(bytes).to_call()
 }
 
-// Writes a call into the first 88 bytes. It reads back from them as itself.
+// Writes a call into the first 88 bytes, from which it is then read again.
 pub fn write<P: Payload>(call: &Call<P>, bytes: &mut [u8]) -> Result<(), Refusal>
     ensures answer { λ r. ⌜ r ≡ cond (ltb (length (now (bytes .entry))) 88) (Err ShortRecord) (Ok tt) ⌝ }
     ensures after { λ _. ⌜ now (bytes .exit) ≡ cond (ltb (length (now (bytes .entry))) 88) (now (bytes .entry)) (writtenOf words (now (call .entry)) ++ drop 88 (now (bytes .entry))) ⌝ }

@@ -1,25 +1,19 @@
 -- Places in a list of keys, and keys that ascend.
-use mathlib.Core.Path.{_≡_, refl, sym, _∙_, ap, subst}
+use mathlib.Core.Path.{_≡_, sym, _∙_, ap, subst}
 use mathlib.Core.Logic.{_≢_, inl, inr}
-use mathlib.Core.List.{List, [], _∷_}
-use mathlib.Core.Bool.{Bool, true, false, cond, _&&_, _||_}
-use Prim.Native.Nat.{ℕ, suc, _+_, _-_, _<_, _≤_}
+use mathlib.Core.List.{List}
+use mathlib.Core.Bool.{true, false, cond, _&&_, _||_}
+use Prim.Native.Nat.{ℕ, _+_, _-_, _<_, _≤_}
 use native.Mathlib.Omega.{arith}
-use lib.ListN.{length, getD, take, drop, set, length-take}
-use lib.Seq.{getD-take, getD-set-same, getD-set-other}
+use lib.ListN.{length, getD, drop, set}
+use lib.Seq.{getD-set-same, getD-set-other}
 use lib.Dec.{eqb, ltb}
-use Rattle.std.specs.declared.option.Option.{Option}
 use Rattle.std.specs.declared.option.Option.the-variants.{Some, None}
 use Rattle.std.proofs.shelf.Lists.{at-drop-more, at-drop-all}
 use Rattle.std.proofs.shelf.Tests.{eq-eqb, ne-eqb, cond-true, cond-false, and-left, lt-ltb, le-ltb, or-from, cases-eq}
-use Rattle.directory.specs.Directories.{placeFrom, ascendsFrom, ascending, keysOf, directoryOf}
-use Rattle.std.specs.declared.result.Result.{Result}
+use Rattle.directory.specs.Directories.{placeFrom, ascendsFrom, ascending, directoryOf}
 use Rattle.std.specs.declared.result.Result.the-variants.{Ok, Err}
 use Rattle.values.specs.declared.refusal.Refusal.the-variants.{DirectorySize, DirectoryOrder}
-use Rattle.directory.specs.declared.directory.Directory.{Directory}
-
-pub length-keys : (d : Directory) → length (keysOf d) ≡ d .count
-length-keys d = omega (arith, length-take (d .count) (d .keys), d .table, d .most)
 
 pub place-here : (L : List ℕ) (i k : ℕ) → i < length L → getD L i 0 ≡ k → placeFrom i k (drop i L) ≡ Some i
 place-here L i k h e =

@@ -13,13 +13,15 @@ pub struct Words {
     pub w4: u64,
 }
 
-// A kind of payload. Two payloads of it are equal exactly when their words are.
+// A kind of payload, whose values are told apart by their words.
 pub trait Payload: Copy {
+    // A payload's words.
     ghost words: { Self → Words };
 
     // The payload that has these words, where there is one.
     ghost named: { Words → Option Self };
 
+    // Payloads with the same words are the same payload.
     law apart: { (a b : Self) → words a ≡ words b → a ≡ b };
 
     law sound: { (w : Words) (p : Self) → named w ≡ Some p → words p ≡ w };

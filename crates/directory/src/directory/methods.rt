@@ -1,4 +1,4 @@
-ghost use mathlib.Core.List.{List, [], _∷_, map};
+ghost use mathlib.Core.List.{[], _∷_, map};
 ghost use mathlib.Core.Path.{_≡_};
 ghost use lib.ListN.{length};
 ghost use Rattle.directory.specs.Directories.{keysOf, faults, quorum, directoryOf, placeOf};

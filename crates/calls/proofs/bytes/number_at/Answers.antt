@@ -1,6 +1,5 @@
 use native.Mathlib.Omega.{arith}
-use Prim.Native.Nat.{_*_, _+_, _-_, _<_, _^_}
-use lib.ListN.{getD}
+use Prim.Native.Nat.{_+_, _-_, _<_}
 use Rattle.calls.proofs.Digits.{value-more, small-more, small-fits}
 use Rattle.calls.proofs.bytes.number_at.Needs as need
 

@@ -1,9 +1,7 @@
-use mathlib.Core.Path.{_≡_, sym, _∙_, ap}
-use mathlib.Core.List.{_++_, [], append-nil}
-use Prim.Native.Nat.{_+_, _-_, _%_}
+use mathlib.Core.Path.{_∙_}
+use Prim.Native.Nat.{_+_, _%_}
 use native.Mathlib.Omega.{arith}
-use lib.ListN.{take, length-set}
-use Rattle.calls.specs.Layout.{bytesOf}
+use lib.ListN.{length-set}
 use Rattle.calls.proofs.Digits.{put-more, put-all, number-of-bytes}
 use Rattle.calls.proofs.bytes.put_number.Needs as need
 

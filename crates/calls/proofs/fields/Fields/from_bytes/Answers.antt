@@ -1,6 +1,5 @@
 use mathlib.Core.Path.{_≡_, ap, _∙_}
 use native.Mathlib.Omega.{arith}
-use Rattle.calls.specs.declared.fields.Fields.{Fields}
 use Rattle.calls.specs.Layout.{fieldsIn, layout}
 use Rattle.calls.proofs.Laid.{Bytes, layout-of-fields}
 use Rattle.calls.proofs.fields.Fields.from_bytes.Needs as need

@@ -1,7 +1,7 @@
-use mathlib.Core.Path.{_≡_, sym, _∙_}
+use mathlib.Core.Path.{sym, _∙_}
 use Prim.Native.Nat.{_<_, _≤_}
 use native.Mathlib.Omega.{arith}
-use lib.ListN.{length, getD, length-take}
+use lib.ListN.{length, length-take}
 use lib.Seq.{getD-take}
 use Rattle.directory.specs.Directories.{keysOf}
 use Rattle.directory.proofs.Keyring.{place-here, place-on, place-none}

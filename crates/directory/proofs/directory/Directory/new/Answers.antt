@@ -1,8 +1,7 @@
 use mathlib.Core.Path.{_≡_, sym, _∙_}
-use Prim.Native.Nat.{_<_, _≤_, _-_, _+_}
+use Prim.Native.Nat.{_<_, _-_, _+_}
 use native.Mathlib.Omega.{arith}
-use native.Mathlib.Nat.{add-sub-cancel}
-use lib.ListN.{length, getD, take, set, length-set}
+use lib.ListN.{length, getD, take, length-set}
 use lib.Seq.{getD-set-same}
 use Rattle.std.proofs.shelf.Lists.{take-more, take-more-set, take-all}
 use Rattle.directory.proofs.Keyring.{ascends-on, ascends-not, ascends-all, directory-order, directory-made, ascends-more}
