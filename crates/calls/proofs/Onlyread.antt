@@ -22,14 +22,13 @@ use Rattle.values.specs.declared.types.Subject.the-variants as subject
 use Rattle.values.specs.declared.types.Vote.{Vote}
 use Rattle.values.specs.declared.refusal.Refusal.{Refusal}
 use Rattle.values.specs.declared.refusal.Refusal.the-variants.{UnusedByte, NotPayload}
-use Rattle.values.specs.Kinds.{kindNumber, kindOf, roundOf}
+use Rattle.values.specs.Kinds.{kindNumber, kindOf, roundOf, proposalOf}
 use Rattle.calls.specs.declared.call.Call.{Call}
 use Rattle.calls.specs.declared.call.Call.the-variants as call
 use Rattle.calls.specs.declared.fields.Fields.{Fields}
 use Rattle.calls.specs.declared.shape.Shape.{Shape}
 use Rattle.calls.specs.declared.shape.Shape.the-variants.{NetworkVote, ConstructedVote, Certificate, Leader, Forward, Attempt, MissingVoters}
 use Rattle.calls.specs.declared.shape.Used.{Used}
-use Rattle.calls.specs.Calls.{proposalIn}
 use Rattle.calls.specs.Records.{kindNamed, shapeNamed, carries, usedBy, blank, zeroWords, noWords, clear, clearInFront, clearBehind, proposalFrom, subjectFrom, voteFrom, callFrom, readShape, readFields, fieldsOf, writtenOf}
 use Rattle.calls.specs.Layout.{layout}
 use Rattle.calls.proofs.Laid.{fields-are, rounds-are, words-are}
@@ -148,8 +147,8 @@ module _ {P : Type 0} (words : P → Words) (named : Words → Option P) (sound 
   record Subjected (s : Subject P) (k : Kind) (f : Fields) : Type 0 where
     kind : kindNumber (kindOf s) ≡ kindNumber k
     round : roundOf s ≡ f .round
-    parent : valueOr (mapped (λ p. p .parent) (proposalIn s)) 0 ≡ f .parent
-    payload : valueOr (mapped (λ p. words (p .payload)) (proposalIn s)) noWords ≡ f .words
+    parent : valueOr (mapped (λ p. p .parent) (proposalOf s)) 0 ≡ f .parent
+    payload : valueOr (mapped (λ p. words (p .payload)) (proposalOf s)) noWords ≡ f .words
 
   proposed : (f : Fields) (p : Proposal P) (o : Option P) → named (f .words) ≡ o →
       okOr (mapped (λ x. record { round = f .round; parent = f .parent; payload = x }) o) NotPayload ≡ Ok p →

@@ -1,4 +1,4 @@
--- Fields and calls: a call's fields read as the call, and what reads as a call has that call's fields.
+-- A call's fields read as the call.
 use mathlib.Core.Path.{_≡_, refl, sym, ap, subst, _∙_}
 use Prim.Native.Nat.{ℕ}
 use Rattle.std.specs.declared.option.Option.{Option}
@@ -13,19 +13,19 @@ use Rattle.values.specs.declared.types.Attestation.{Attestation}
 use Rattle.calls.specs.declared.call.Call.{Call}
 use Rattle.calls.specs.declared.call.Call.the-variants as call
 use Rattle.calls.specs.declared.fields.Fields.{Fields}
-use Rattle.calls.specs.Calls.{proposalOf}
+use Rattle.calls.specs.Calls.{proposalIn}
 use Rattle.calls.specs.Records.{readFields, fieldsOf}
 
 module _ {P : Type 0} (words : P → Words) (named : Words → Option P) where
   -- the call's payload is named by its words
   abbrev pub Told : Call P → Type 0
-  Told c = Cases (proposalOf c) (Unit {0}) (λ p. named (words (p .payload)) ≡ Some (p .payload))
+  Told c = Cases (proposalIn c) (Unit {0}) (λ p. named (words (p .payload)) ≡ Some (p .payload))
 
-  pub told-some : (c : Call P) (p : Proposal P) (w : Words) → proposalOf c ≡ Some p → w ≡ words (p .payload) → named w ≡ Some (p .payload) → Told c
+  pub told-some : (c : Call P) (p : Proposal P) (w : Words) → proposalIn c ≡ Some p → w ≡ words (p .payload) → named w ≡ Some (p .payload) → Told c
   told-some c p w e v h =
       subst (λ o. Cases o (Unit {0}) (λ p. named (words (p .payload)) ≡ Some (p .payload))) (sym e) (ap named (sym v) ∙ h)
 
-  pub told-none : (c : Call P) → proposalOf c ≡ None → Told c
+  pub told-none : (c : Call P) → proposalIn c ≡ None → Told c
   told-none c e = subst (λ o. Cases o (Unit {0}) (λ p. named (words (p .payload)) ≡ Some (p .payload))) (sym e) tt
 
   network-back : (k : ℕ) (s : Subject P) (a : Attestation) → let c : Call P = call.NetworkVote k (record { subject = s; attestation = a }) in

@@ -5,15 +5,9 @@ use Rattle.std.specs.declared.option.Option.the-variants.{Some, None}
 use Rattle.values.specs.declared.types.Rnd.{Rnd}
 use Rattle.values.specs.declared.types.Proposal.{Proposal}
 use Rattle.values.specs.declared.types.Subject.{Subject}
-use Rattle.values.specs.declared.types.Subject.the-variants.{Notarize, Nullify, Finalize}
-use Rattle.values.specs.Kinds.{roundOf}
+use Rattle.values.specs.Kinds.{roundOf, proposalOf}
 use Rattle.calls.specs.declared.call.Call.{Call}
 use Rattle.calls.specs.declared.call.Call.the-variants.{NetworkVote, ConstructedVote, Certificate, Leader, Forward, Attempt, MissingVoters}
-
-abbrev pub proposalIn : {P : Type 0} → Subject P → Option (Proposal P)
-proposalIn (Notarize p) = Some p
-proposalIn (Nullify r) = None
-proposalIn (Finalize p) = Some p
 
 module _ {P : Type 0} where
   -- the call's number in a record
@@ -27,24 +21,24 @@ module _ {P : Type 0} where
   callNumber (MissingVoters p) = 7
 
   -- what a vote or a certificate is for
-  abbrev pub subjectOf : Call P → Option (Subject P)
-  subjectOf (NetworkVote k v) = Some (v .subject)
-  subjectOf (ConstructedVote v) = Some (v .subject)
-  subjectOf (Certificate s) = Some s
-  subjectOf (Leader l) = None
-  subjectOf (Forward i) = None
-  subjectOf Attempt = None
-  subjectOf (MissingVoters p) = None
+  abbrev pub subjectIn : Call P → Option (Subject P)
+  subjectIn (NetworkVote k v) = Some (v .subject)
+  subjectIn (ConstructedVote v) = Some (v .subject)
+  subjectIn (Certificate s) = Some s
+  subjectIn (Leader l) = None
+  subjectIn (Forward i) = None
+  subjectIn Attempt = None
+  subjectIn (MissingVoters p) = None
 
   -- the proposal that a call names
-  abbrev pub proposalOf : Call P → Option (Proposal P)
-  proposalOf (NetworkVote k v) = proposalIn (v .subject)
-  proposalOf (ConstructedVote v) = proposalIn (v .subject)
-  proposalOf (Certificate s) = proposalIn s
-  proposalOf (Leader l) = None
-  proposalOf (Forward i) = None
-  proposalOf Attempt = None
-  proposalOf (MissingVoters p) = Some p
+  abbrev pub proposalIn : Call P → Option (Proposal P)
+  proposalIn (NetworkVote k v) = proposalOf (v .subject)
+  proposalIn (ConstructedVote v) = proposalOf (v .subject)
+  proposalIn (Certificate s) = proposalOf s
+  proposalIn (Leader l) = None
+  proposalIn (Forward i) = None
+  proposalIn Attempt = None
+  proposalIn (MissingVoters p) = Some p
 
   -- the round that a call names, or epoch 0 and view 0
   abbrev pub roundIn : Call P → Rnd

@@ -26,7 +26,7 @@ use Rattle.calls.specs.declared.fields.Fields.{Fields}
 use Rattle.calls.specs.declared.shape.Shape.{Shape}
 use Rattle.calls.specs.declared.shape.Shape.the-variants.{NetworkVote, ConstructedVote, Certificate, Leader, Forward, Attempt, MissingVoters}
 use Rattle.calls.specs.declared.shape.Used.{Used}
-use Rattle.calls.specs.Calls.{callNumber, subjectOf, proposalOf, roundIn, keyIn, participantIn, signatureIn}
+use Rattle.calls.specs.Calls.{callNumber, subjectIn, proposalIn, roundIn, keyIn, participantIn, signatureIn}
 use Rattle.calls.specs.Layout.{fieldsIn, layout}
 
 -- the kind that a number names
@@ -133,14 +133,14 @@ module _ {P : Type 0} (words : P → Words) where
   fieldsOf c =
       record {
         call = callNumber c;
-        kind = valueOr (mapped (λ s. kindNumber (kindOf s)) (subjectOf c)) 0;
+        kind = valueOr (mapped (λ s. kindNumber (kindOf s)) (subjectIn c)) 0;
         gap = 0;
         key = keyIn c;
         participant = participantIn c;
         space = 0;
         round = roundIn c;
-        parent = valueOr (mapped (λ p. p .parent) (proposalOf c)) 0;
-        words = valueOr (mapped (λ p. words (p .payload)) (proposalOf c)) noWords;
+        parent = valueOr (mapped (λ p. p .parent) (proposalIn c)) 0;
+        words = valueOr (mapped (λ p. words (p .payload)) (proposalIn c)) noWords;
         signature = signatureIn c;
       }
 

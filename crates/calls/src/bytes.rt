@@ -18,7 +18,8 @@ pub(crate) fn number_at(bytes: &[u8], at: usize, width: usize) -> u64
     number
 }
 
-// Writes a number into `width` bytes from `at` on, the lowest byte first.
+// Writes a number into `width` bytes from `at` on, the lowest byte first. Fields are written from
+// the front to the back, so nothing is said of what lies behind.
 pub(crate) fn put_number(bytes: &mut [u8; 88], at: usize, width: usize, number: u64)
     requires within { ⌜ at + width ≤ 88 ⌝ }
     requires fits { ⌜ number < 256 ^ width ⌝ }

@@ -1,6 +1,6 @@
 ghost use mathlib.Core.Path.{_≡_};
 ghost use Rattle.std.specs.Orderings.{Decides};
-ghost use Rattle.calls.specs.Calls.{callNumber, subjectOf, proposalOf, roundIn, keyIn, participantIn, signatureIn};
+ghost use Rattle.calls.specs.Calls.{callNumber, subjectIn, proposalIn, roundIn, keyIn, participantIn, signatureIn};
 use values::payload::Payload;
 use values::same::same_proposal;
 use values::same::same_subject;
@@ -50,7 +50,7 @@ impl<P: Payload> Call<P> {
 
     // What a vote or a certificate is for.
     pub(crate) fn subject(&self) -> Option<Subject<P>>
-        ensures { λ r. ⌜ r ≡ subjectOf (now (self .entry)) ⌝ }
+        ensures { λ r. ⌜ r ≡ subjectIn (now (self .entry)) ⌝ }
     {
         match self {
             Call::NetworkVote(_, vote) => Some(vote.subject),
@@ -62,7 +62,7 @@ impl<P: Payload> Call<P> {
 
     // The proposal that the call names.
     pub(crate) fn proposal(&self) -> Option<Proposal<P>>
-        ensures { λ r. ⌜ r ≡ proposalOf (now (self .entry)) ⌝ }
+        ensures { λ r. ⌜ r ≡ proposalIn (now (self .entry)) ⌝ }
     {
         if let Call::MissingVoters(proposal) = self {
             return Some(*proposal);

@@ -138,7 +138,7 @@ fn numbers_not_listed() -> Result<(), Fail> {
     for call in 0..256usize {
         let mut bytes = [0; 88];
         bytes[0] = (call & 0xff) as u8;
-        // a call with a kind that is not named, a call without one, a call that needs words
+        // calls 1 to 3 lack a kind; 4 to 7 need none, and zeros are values of all that they use
         let answer = if call >= 4 && call <= 7 { 0 } else { 11 };
         check_eq(refused::<Digest>(&bytes), answer)?;
     }

@@ -9,9 +9,9 @@ pub enum Cause {
     UnknownParticipant,
     // its vote carries the number of another
     SignerMismatch(Kind),
-    // it voted otherwise before
+    // its vote differs from an earlier one of the kind
     Conflict(Kind),
-    // it voted the same before, under another signature
+    // it sent the same notarize or finalize before, under another signature
     InvalidSignature,
     NullifyAfterFinalize,
     FinalizeAfterNullify,

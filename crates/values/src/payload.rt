@@ -24,8 +24,11 @@ pub trait Payload: Copy {
     // Payloads with the same words are the same payload.
     law apart: { (a b : Self) → words a ≡ words b → a ≡ b };
 
+    // A payload has the words that name it.
     law sound: { (w : Words) (p : Self) → named w ≡ Some p → words p ≡ w };
 
+    // The payload's words, which name it. (As a law, `back` would speak of fields with numbers too
+    // large for their types as well.)
     fn to_words(&self) -> Words
         ensures value { λ r. ⌜ r ≡ words (now (self .entry)) ⌝ }
         ensures back { λ r. ⌜ named r ≡ Some (now (self .entry)) ⌝ };

@@ -14,7 +14,7 @@ pub enum Refusal {
     OtherRound,
     // a constructed vote whose signer is no participant
     UnknownSigner,
-    // a constructed vote where the signer's vote of that kind is kept already
+    // a constructed notarize or finalize whose signer's vote of that kind is kept already
     AlreadyVoted,
     // a constructed vote that conflicts with what a released sheet knows of its signer
     ReleasedConflict,

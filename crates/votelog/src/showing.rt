@@ -40,8 +40,8 @@ impl Totals {
         refused: 0,
     };
 
-    fn count<P: Spoken>(&mut self, read: &Result<Call<P>, Refusal>) {
-        let one = match read {
+    fn count<P: Spoken>(&mut self, answer: &Result<Call<P>, Refusal>) {
+        let one = match answer {
             Ok(Call::NetworkVote(_, _)) => &mut self.network_votes,
             Ok(Call::ConstructedVote(_)) => &mut self.constructed_votes,
             Ok(Call::Certificate(_)) => &mut self.certificates,
@@ -85,9 +85,9 @@ fn tell_record<P: Spoken, W: Write>(
     heap: Global,
     out: &mut W,
     i: usize,
-    read: &Result<Call<P>, Refusal>,
+    answer: &Result<Call<P>, Refusal>,
 ) -> Result<(), Failure> {
-    match read {
+    match answer {
         Ok(call) => {
             let words = call_words(heap, call)?;
             writeln!(out, "{i} {words}")?;
@@ -109,9 +109,9 @@ fn tell_records<P: Spoken, W: Write>(
     let mut totals = Totals::NONE;
     let mut records = 0usize;
     for (i, record) in bytes.chunks(RECORD).enumerate() {
-        let read = read::<P>(record);
-        tell_record(heap, out, i, &read)?;
-        totals.count(&read);
+        let answer = read::<P>(record);
+        tell_record(heap, out, i, &answer)?;
+        totals.count(&answer);
         records = records.saturating_add(1);
     }
     totals.tell(out, records)?;
