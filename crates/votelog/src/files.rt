@@ -7,21 +7,25 @@ use std::fs;
 pub(crate) fn bytes_of(rt: &LibcRuntime, path: &str) -> Result<Vec<u8>, Failure> {
     match fs::read(rt, path) {
         Ok(bytes) => Ok(bytes),
-        Err(error) => Err(Failure::Message(format!(rt.alloc(), "cannot read {path}: {error}")?)),
+        Err(error) => Err(Failure::Message(format!(rt.alloc(), "cannot read {path:?}: {error}")?)),
     }
 }
 
+// A file's text. A file with a zero byte is none, as most files of records have one.
 pub(crate) fn text_of(rt: &LibcRuntime, path: &str) -> Result<String, Failure> {
     match fs::read_to_string(rt, path) {
+        Ok(text) if text.as_bytes().contains(&0) => Err(Failure::Message(
+            format!(rt.alloc(), "{path:?} is no file of lines")?,
+        )),
         Ok(text) => Ok(text),
-        Err(error) => Err(Failure::Message(format!(rt.alloc(), "cannot read {path}: {error}")?)),
+        Err(error) => Err(Failure::Message(format!(rt.alloc(), "cannot read {path:?}: {error}")?)),
     }
 }
 
-pub(crate) fn put(rt: &LibcRuntime, path: &str, bytes: &Vec<u8>) -> Result<(), Failure> {
-    match fs::write(rt, path, bytes.as_slice()) {
+pub(crate) fn put(rt: &LibcRuntime, path: &str, bytes: &[u8]) -> Result<(), Failure> {
+    match fs::write(rt, path, bytes) {
         Ok(()) => Ok(()),
-        Err(error) => Err(Failure::Message(format!(rt.alloc(), "cannot write {path}: {error}")?)),
+        Err(error) => Err(Failure::Message(format!(rt.alloc(), "cannot write {path:?}: {error}")?)),
     }
 }
 
@@ -31,7 +35,7 @@ pub(crate) fn keys_of(rt: &LibcRuntime, path: &str) -> Result<Vec<u64>, Failure>
     let bytes = bytes_of(rt, path)?;
     let (parts, rest) = bytes.as_slice().as_chunks::<8>();
     if !rest.is_empty() {
-        return Err(Failure::Message(format!(heap, "{path} ends within a key of 8 bytes")?));
+        return Err(Failure::Message(format!(heap, "{path:?} ends within a key of 8 bytes")?));
     }
     let mut keys = Vec::new(heap);
     for part in parts {

@@ -7,6 +7,8 @@ mod payloads;
 mod reading;
 mod reasons;
 mod showing;
+#[cfg(test)]
+mod tests;
 mod writing;
 
 use crate::failure::FailureFromOutput;

@@ -28,7 +28,7 @@ enum Awaited {
 
 // The words after the command's name: files in their order, and options.
 #[derive(Drop)]
-struct Words {
+struct Arguments {
     files: Vec<String>,
     keys: Option<String>,
     payload: Option<PayloadKind>,
@@ -40,7 +40,7 @@ fn payload_kind(heap: Global, word: &str) -> Result<PayloadKind, Failure> {
     match word {
         "digest" => Ok(PayloadKind::Digest),
         "block" => Ok(PayloadKind::Block),
-        _ => Err(Failure::Message(format!(heap, "--payload takes digest or block, not {word}")?)),
+        _ => Err(Failure::Message(format!(heap, "--payload takes digest or block, not {word:?}")?)),
     }
 }
 
@@ -51,19 +51,15 @@ fn awaited_name(awaited: Awaited) -> &'static str {
     }
 }
 
-impl Words {
-    fn new(heap: Global) -> Words {
-        Words {
+impl Arguments {
+    fn new(heap: Global) -> Arguments {
+        Arguments {
             files: Vec::new(heap),
             keys: None,
             payload: None,
             awaited: None,
             help: false,
         }
-    }
-
-    fn is_empty(&self) -> bool {
-        self.files.is_empty() && self.keys.is_none() && self.payload.is_none() && !self.help
     }
 
     fn given(&self, awaited: Awaited) -> bool {
@@ -83,7 +79,7 @@ impl Words {
     }
 
     fn value(&mut self, heap: Global, awaited: Awaited, word: &str) -> Result<(), Failure> {
-        if word.starts_with("--") {
+        if word.starts_with("-") {
             let name = awaited_name(awaited);
             return Err(Failure::Message(format!(heap, "{name} needs a value")?));
         }
@@ -107,13 +103,22 @@ impl Words {
             _ => {
                 if word.starts_with("-") {
                     return Err(Failure::Message(
-                        format!(heap, "unknown option {word}; votelog --help lists them")?,
+                        format!(heap, "unknown option {word:?}; votelog --help lists them")?,
                     ));
                 }
                 self.files.push(String::from_str(heap, word)?)?;
             }
         }
         Ok(())
+    }
+
+    fn of(heap: Global, words: &Vec<String>) -> Result<Arguments, Failure> {
+        let mut arguments = Arguments::new(heap);
+        for word in words.iter().skip(1) {
+            arguments.take(heap, word.as_str())?;
+        }
+        arguments.end(heap)?;
+        Ok(arguments)
     }
 
     fn end(&self, heap: Global) -> Result<(), Failure> {
@@ -127,13 +132,17 @@ impl Words {
     }
 }
 
-fn show_command(heap: Global, words: Words) -> Result<Command, Failure> {
-    let Words {
+fn show_command(heap: Global, arguments: Arguments) -> Result<Command, Failure> {
+    let Arguments {
         mut files,
         keys,
         payload,
+        help,
         ..
-    } = words;
+    } = arguments;
+    if help {
+        return Ok(Command::Help);
+    }
     match (files.pop(), files.pop()) {
         (Some(calls), None) => Ok(Command::Show(
             calls,
@@ -144,13 +153,17 @@ fn show_command(heap: Global, words: Words) -> Result<Command, Failure> {
     }
 }
 
-fn write_command(heap: Global, words: Words) -> Result<Command, Failure> {
-    let Words {
+fn write_command(heap: Global, arguments: Arguments) -> Result<Command, Failure> {
+    let Arguments {
         mut files,
         keys,
         payload,
+        help,
         ..
-    } = words;
+    } = arguments;
+    if help {
+        return Ok(Command::Help);
+    }
     if keys.is_some() {
         return Err(Failure::Message(String::from_str(heap, "write takes no --keys")?));
     }
@@ -166,29 +179,7 @@ fn write_command(heap: Global, words: Words) -> Result<Command, Failure> {
     }
 }
 
-// A command that takes no words.
-fn alone(heap: Global, name: &str, words: &Words, command: Command) -> Result<Command, Failure> {
-    if words.is_empty() {
-        return Ok(command);
-    }
-    Err(Failure::Message(format!(heap, "{name} takes no other words",)?))
-}
-
-fn named(heap: Global, name: &str, words: Words) -> Result<Command, Failure> {
-    match name {
-        "--help" => alone(heap, name, &words, Command::Help),
-        "--version" => alone(heap, name, &words, Command::Version),
-        "show" if words.help => Ok(Command::Help),
-        "show" => show_command(heap, words),
-        "write" if words.help => Ok(Command::Help),
-        "write" => write_command(heap, words),
-        _ => Err(Failure::Message(
-            format!(heap, "unknown command {name}; votelog --help lists them",)?,
-        )),
-    }
-}
-
-fn arguments(rt: &LibcRuntime) -> Result<Vec<String>, Failure> {
+fn words_of(rt: &LibcRuntime) -> Result<Vec<String>, Failure> {
     let heap = rt.alloc();
     match env::args(rt) {
         Ok(all) => Ok(all.skip(1).collect(heap)?),
@@ -196,19 +187,31 @@ fn arguments(rt: &LibcRuntime) -> Result<Vec<String>, Failure> {
     }
 }
 
+// A command that takes no words.
+fn alone(heap: Global, name: &str, words: usize, command: Command) -> Result<Command, Failure> {
+    if words == 1 {
+        Ok(command)
+    } else {
+        Err(Failure::Message(format!(heap, "{name} takes no other words")?))
+    }
+}
+
 // What the program's arguments ask for.
 pub(crate) fn asked(rt: &LibcRuntime) -> Result<Command, Failure> {
     let heap = rt.alloc();
-    let all = arguments(rt)?;
-    let Some(name) = all.first() else {
+    let words = words_of(rt)?;
+    let Some(name) = words.first() else {
         return Err(Failure::Message(
             String::from_str(heap, "no command; votelog --help lists them")?,
         ));
     };
-    let mut words = Words::new(heap);
-    for word in all.iter().skip(1) {
-        words.take(heap, word.as_str())?;
+    match name.as_str() {
+        "--help" => alone(heap, "--help", words.len(), Command::Help),
+        "--version" => alone(heap, "--version", words.len(), Command::Version),
+        "show" => show_command(heap, Arguments::of(heap, &words)?),
+        "write" => write_command(heap, Arguments::of(heap, &words)?),
+        other => Err(Failure::Message(
+            format!(heap, "unknown command {other:?}; votelog --help lists them")?,
+        )),
     }
-    words.end(heap)?;
-    named(heap, name.as_str(), words)
 }

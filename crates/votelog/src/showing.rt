@@ -59,15 +59,11 @@ impl Totals {
             network_votes,
             constructed_votes,
             certificates,
-            ..
-        } = *self;
-        let Totals {
             leaders,
             forwards,
             attempts,
             missing_voters,
             refused,
-            ..
         } = *self;
         writeln!(out, "records {records}, refused {refused}")?;
         writeln!(

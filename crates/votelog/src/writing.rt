@@ -1,5 +1,6 @@
 use crate::failure::Failure;
 use crate::failure::FailureFromAlloc;
+use crate::failure::FailureFromOutput;
 use crate::failure::FailureFromRefused;
 use crate::files::put;
 use crate::files::text_of;
@@ -34,7 +35,7 @@ fn records_of<P: Spoken>(heap: Global, path: &str, text: &str) -> Result<Vec<u8>
             None => {
                 let number = i.saturating_add(1);
                 return Err(Failure::Message(
-                    format!(heap, "{path} line {number} is no call: {line}")?,
+                    format!(heap, "{path:?} line {number} is no call: {line:?}")?,
                 ));
             }
         }
@@ -42,9 +43,12 @@ fn records_of<P: Spoken>(heap: Global, path: &str, text: &str) -> Result<Vec<u8>
     Ok(bytes)
 }
 
-// Writes the calls of a file of lines as records.
+// Writes the calls of a file of lines as records. A byte-order mark in front is no part of a line.
 pub(crate) fn write<P: Spoken>(rt: &LibcRuntime, lines: &str, calls: &str) -> Result<(), Failure> {
     let text = text_of(rt, lines)?;
-    let bytes = records_of::<P>(rt.alloc(), lines, text.as_str())?;
-    put(rt, calls, &bytes)
+    let bytes = records_of::<P>(rt.alloc(), lines, text.trim_start_matches('\u{feff}'))?;
+    put(rt, calls, bytes.as_slice())?;
+    let records = bytes.len() / RECORD;
+    println!(rt, "records {records}")?;
+    Ok(())
 }
