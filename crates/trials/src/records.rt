@@ -65,6 +65,9 @@ fn check_writes(sample: &Sample) -> Result<(), Fail> {
     let mut long = [0xee; 89];
     check_eq(write_refused(&sample.call, &mut long), 0)?;
     check_eq(long[88], 0xee)?;
+    let mut exact = [0xee; 88];
+    check_eq(write_refused(&sample.call, &mut exact), 0)?;
+    check(reads_as(&exact, &sample.call))?;
     check_eq(write_refused(&sample.call, &mut []), 10)
 }
 
@@ -178,6 +181,19 @@ fn block_names_have_limits() -> Result<(), Fail> {
         refused::<Digest>(&question(u64::MAX, u64::MAX, u64::MAX, u64::MAX)),
         0,
     )
+}
+
+#[test]
+fn block_names_are_written_back() -> Result<(), Fail> {
+    let bytes = question(0xffff, u64::MAX, 0xffff_ffff, 0);
+    match read::<BlockName>(&bytes) {
+        Ok(call) => {
+            let mut again = [0xee; 88];
+            check(write(&call, &mut again).is_ok())?;
+            check(again == bytes)
+        }
+        Err(_) => Err(Fail::new("a block name is refused")),
+    }
 }
 
 #[test]
