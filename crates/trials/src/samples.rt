@@ -23,7 +23,7 @@ impl Sample {
         }
     }
 
-    pub fn uses(&self, at: usize) -> bool {
+    pub(crate) fn uses(&self, at: usize) -> bool {
         for (from, to) in self.used.iter() {
             if *from <= at && at < *to {
                 return true;
@@ -69,7 +69,7 @@ const FINALIZE: Vote<Digest> = Vote {
 const NONE: (usize, usize) = (0, 0);
 
 // One call of each shape.
-pub fn samples() -> [Sample; 13] {
+pub(crate) fn samples() -> [Sample; 13] {
     [
         Sample::new(
             Call::NetworkVote(11, NOTARIZE),

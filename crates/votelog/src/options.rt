@@ -132,50 +132,51 @@ impl Arguments {
     }
 }
 
-fn show_command(heap: Global, arguments: Arguments) -> Result<Command, Failure> {
-    let Arguments {
-        mut files,
-        keys,
-        payload,
-        help,
-        ..
-    } = arguments;
-    if help {
-        return Ok(Command::Help);
-    }
+fn show_command(
+    heap: Global,
+    mut files: Vec<String>,
+    keys: Option<String>,
+    payload: PayloadKind,
+) -> Result<Command, Failure> {
     match (files.pop(), files.pop()) {
-        (Some(calls), None) => Ok(Command::Show(
-            calls,
-            keys,
-            payload.unwrap_or(PayloadKind::Digest),
-        )),
+        (Some(calls), None) => Ok(Command::Show(calls, keys, payload)),
         _ => Err(Failure::Message(String::from_str(heap, "show takes one file, CALLS")?)),
     }
 }
 
-fn write_command(heap: Global, arguments: Arguments) -> Result<Command, Failure> {
+fn write_command(
+    heap: Global,
+    mut files: Vec<String>,
+    keys: Option<String>,
+    payload: PayloadKind,
+) -> Result<Command, Failure> {
+    if keys.is_some() {
+        return Err(Failure::Message(String::from_str(heap, "write takes no --keys")?));
+    }
+    match (files.pop(), files.pop(), files.pop()) {
+        (Some(calls), Some(lines), None) => Ok(Command::Write(lines, calls, payload)),
+        _ => Err(Failure::Message(
+            String::from_str(heap, "write takes two files, LINES and CALLS")?,
+        )),
+    }
+}
+
+// A command on files.
+fn file_command(heap: Global, name: &str, arguments: Arguments) -> Result<Command, Failure> {
     let Arguments {
-        mut files,
+        files,
         keys,
         payload,
         help,
         ..
     } = arguments;
+    let payload = payload.unwrap_or(PayloadKind::Digest);
     if help {
-        return Ok(Command::Help);
-    }
-    if keys.is_some() {
-        return Err(Failure::Message(String::from_str(heap, "write takes no --keys")?));
-    }
-    match (files.pop(), files.pop(), files.pop()) {
-        (Some(calls), Some(lines), None) => Ok(Command::Write(
-            lines,
-            calls,
-            payload.unwrap_or(PayloadKind::Digest),
-        )),
-        _ => Err(Failure::Message(
-            String::from_str(heap, "write takes two files, LINES and CALLS")?,
-        )),
+        Ok(Command::Help)
+    } else if name == "show" {
+        show_command(heap, files, keys, payload)
+    } else {
+        write_command(heap, files, keys, payload)
     }
 }
 
@@ -208,8 +209,7 @@ pub(crate) fn asked(rt: &LibcRuntime) -> Result<Command, Failure> {
     match name.as_str() {
         "--help" => alone(heap, "--help", words.len(), Command::Help),
         "--version" => alone(heap, "--version", words.len(), Command::Version),
-        "show" => show_command(heap, Arguments::of(heap, &words)?),
-        "write" => write_command(heap, Arguments::of(heap, &words)?),
+        "show" | "write" => file_command(heap, name.as_str(), Arguments::of(heap, &words)?),
         other => Err(Failure::Message(
             format!(heap, "unknown command {other:?}; votelog --help lists them")?,
         )),
