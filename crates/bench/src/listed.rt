@@ -26,9 +26,9 @@ impl<P: Payload> Scheme<P> for Listed {
 
     const BATCHABLE: bool = LISTED_BATCHABLE;
 
-    ghost meaning = { λ s. listed_meaning P.Payload.words s };
+    ghost meaning = { λ s. listed_meaning P.words s };
 
-    ghost lawful = { λ s. listed_lawful P.Payload.words s };
+    ghost lawful = { λ s. listed_lawful P.words s };
 
     fn participants(&self) -> &Directory {
         &self.directory
@@ -44,8 +44,8 @@ impl<P: Payload> Scheme<P> for Listed {
         attestations: &[Attestation],
         verdicts: &mut [bool],
     )
-        ensures answer { verdicts.new ≡ answered (λ a. (listed_meaning P.Payload.words self.old).good subject a) attestations.now verdicts.old }
-        ensures same { listed_meaning P.Payload.words self.new ≡ listed_meaning P.Payload.words self.old }
+        ensures answer { verdicts.new ≡ answered (λ a. (listed_meaning P.words self.old).good subject a) attestations.now verdicts.old }
+        ensures same { listed_meaning P.words self.new ≡ listed_meaning P.words self.old }
     {
         tag_verdicts(&self.directory, number(subject), attestations, verdicts);
     }
@@ -55,15 +55,15 @@ impl<P: Payload> Scheme<P> for Listed {
         subject: Subject<P>,
         attestations: &[Attestation],
     ) -> Option<Masked>
-        ensures answer { result ≡ (listed_meaning P.Payload.words self.old).optimistic subject attestations.now }
-        ensures same { listed_meaning P.Payload.words self.new ≡ listed_meaning P.Payload.words self.old }
+        ensures answer { result ≡ (listed_meaning P.words self.old).optimistic subject attestations.now }
+        ensures same { listed_meaning P.words self.new ≡ listed_meaning P.words self.old }
     {
         self.sealed(number(subject), attestations)
     }
 
     fn assemble(&mut self, subject: Subject<P>, attestations: &[Attestation]) -> Option<Masked>
-        ensures answer { result ≡ (listed_meaning P.Payload.words self.old).assembled subject attestations.now }
-        ensures same { listed_meaning P.Payload.words self.new ≡ listed_meaning P.Payload.words self.old }
+        ensures answer { result ≡ (listed_meaning P.words self.old).assembled subject attestations.now }
+        ensures same { listed_meaning P.words self.new ≡ listed_meaning P.words self.old }
     {
         self.sealed(number(subject), attestations)
     }

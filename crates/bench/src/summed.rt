@@ -25,9 +25,9 @@ impl<P: Payload> Scheme<P> for Summed {
 
     const BATCHABLE: bool = SUMMED_BATCHABLE;
 
-    ghost meaning = { λ s. summed_meaning P.Payload.words s };
+    ghost meaning = { λ s. summed_meaning P.words s };
 
-    ghost lawful = { λ s. summed_lawful P.Payload.words s };
+    ghost lawful = { λ s. summed_lawful P.words s };
 
     fn participants(&self) -> &Directory {
         &self.directory
@@ -43,8 +43,8 @@ impl<P: Payload> Scheme<P> for Summed {
         attestations: &[Attestation],
         verdicts: &mut [bool],
     )
-        ensures answer { verdicts.new ≡ answered (λ a. (summed_meaning P.Payload.words self.old).good subject a) attestations.now verdicts.old }
-        ensures same { summed_meaning P.Payload.words self.new ≡ summed_meaning P.Payload.words self.old }
+        ensures answer { verdicts.new ≡ answered (λ a. (summed_meaning P.words self.old).good subject a) attestations.now verdicts.old }
+        ensures same { summed_meaning P.words self.new ≡ summed_meaning P.words self.old }
     {
         tag_verdicts(&self.directory, number(subject), attestations, verdicts);
     }
@@ -54,15 +54,15 @@ impl<P: Payload> Scheme<P> for Summed {
         subject: Subject<P>,
         attestations: &[Attestation],
     ) -> Option<Masked>
-        ensures answer { result ≡ (summed_meaning P.Payload.words self.old).optimistic subject attestations.now }
-        ensures same { summed_meaning P.Payload.words self.new ≡ summed_meaning P.Payload.words self.old }
+        ensures answer { result ≡ (summed_meaning P.words self.old).optimistic subject attestations.now }
+        ensures same { summed_meaning P.words self.new ≡ summed_meaning P.words self.old }
     {
         self.sealed_if_valid(number(subject), attestations)
     }
 
     fn assemble(&mut self, subject: Subject<P>, attestations: &[Attestation]) -> Option<Masked>
-        ensures answer { result ≡ (summed_meaning P.Payload.words self.old).assembled subject attestations.now }
-        ensures same { summed_meaning P.Payload.words self.new ≡ summed_meaning P.Payload.words self.old }
+        ensures answer { result ≡ (summed_meaning P.words self.old).assembled subject attestations.now }
+        ensures same { summed_meaning P.words self.new ≡ summed_meaning P.words self.old }
     {
         self.sealed(attestations)
     }

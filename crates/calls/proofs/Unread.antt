@@ -7,7 +7,6 @@ use Rattle.values.specs.declared.types.Subject.TheVariants as subject
 use Rattle.values.specs.declared.types.Attestation.{Attestation}
 use Rattle.calls.specs.declared.call.Call.{Call}
 use Rattle.calls.specs.declared.call.Call.TheVariants as call
-use Rattle.calls.specs.declared.fields.Fields.{Fields}
 use Rattle.calls.specs.Calls.{proposal_in}
 use Rattle.calls.specs.Records.{read_fields, fields_of}
 

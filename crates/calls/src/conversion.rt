@@ -10,7 +10,7 @@ use values::types::{Attestation, Kind, Proposal, Subject, Vote};
 
 impl Fields {
     fn proposal<P: Payload>(&self) -> Result<Proposal<P>, Refusal>
-        ensures { result ≡ proposal_from named self.now }
+        ensures { result ≡ proposal_from P.named self.now }
     {
         match P::from_words(self.words) {
             Some(payload) => Ok(Proposal {
@@ -23,7 +23,7 @@ impl Fields {
     }
 
     fn subject<P: Payload>(&self, kind: Kind) -> Result<Subject<P>, Refusal>
-        ensures { result ≡ subject_from named kind self.now }
+        ensures { result ≡ subject_from P.named kind self.now }
     {
         match kind {
             Kind::Notarize => Ok(Subject::Notarize(self.proposal()?)),
@@ -33,7 +33,7 @@ impl Fields {
     }
 
     fn vote<P: Payload>(&self, kind: Kind) -> Result<Vote<P>, Refusal>
-        ensures { result ≡ vote_from named kind self.now }
+        ensures { result ≡ vote_from P.named kind self.now }
     {
         let attestation = Attestation {
             signer: self.participant,
@@ -46,7 +46,7 @@ impl Fields {
     }
 
     fn call_of<P: Payload>(&self, shape: Shape) -> Result<Call<P>, Refusal>
-        ensures { result ≡ call_from named shape self.now }
+        ensures { result ≡ call_from P.named shape self.now }
     {
         match shape {
             Shape::NetworkVote(kind) => Ok(Call::NetworkVote(self.key, self.vote(kind)?)),
@@ -61,7 +61,7 @@ impl Fields {
 
     // The call that the fields hold.
     pub(crate) fn to_call<P: Payload>(&self) -> Result<Call<P>, Refusal>
-        ensures { result ≡ read_fields named self.now }
+        ensures { result ≡ read_fields P.named self.now }
     {
         let Some(shape) = Shape::named(self.call, self.kind) else {
             return Err(Refusal::UnknownCall);
@@ -74,8 +74,8 @@ impl Fields {
 
     // The fields that a call is written as.
     pub(crate) fn from_call<P: Payload>(call: &Call<P>) -> Fields
-        ensures value { result ≡ fields_of words call.now }
-        ensures back { read_fields named result ≡ Ok call.now }
+        ensures value { result ≡ fields_of P.words call.now }
+        ensures back { read_fields P.named result ≡ Ok call.now }
     {
         let kind = match call.subject() {
             Some(subject) => subject.kind().number(),

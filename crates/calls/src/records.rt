@@ -12,8 +12,8 @@ pub const RECORD: usize = 88;
 
 // The call that the first 88 bytes hold, which is written as these bytes and no others.
 pub fn read<P: Payload>(bytes: &[u8]) -> Result<Call<P>, Refusal>
-    ensures value { result ≡ read_of named bytes.now }
-    ensures only { IfOk result (λ c. written_of words c ≡ take 88 bytes.now) }
+    ensures value { result ≡ read_of P.named bytes.now }
+    ensures only { IfOk result (λ c. written_of P.words c ≡ take 88 bytes.now) }
 {
     if bytes.len() < RECORD {
         return Err(Refusal::ShortRecord);
@@ -24,8 +24,8 @@ pub fn read<P: Payload>(bytes: &[u8]) -> Result<Call<P>, Refusal>
 // Writes a call into the first 88 bytes, from which it is then read again.
 pub fn write<P: Payload>(call: &Call<P>, bytes: &mut [u8]) -> Result<(), Refusal>
     ensures answer { result ≡ (if nat_lt (length bytes.old) 88 then Err ShortRecord else Ok tt) }
-    ensures after { bytes.new ≡ (if nat_lt (length bytes.old) 88 then bytes.old else written_of words call.now ++ drop 88 bytes.old) }
-    ensures back { OnOk result (read_of named bytes.new ≡ Ok call.now) }
+    ensures after { bytes.new ≡ (if nat_lt (length bytes.old) 88 then bytes.old else written_of P.words call.now ++ drop 88 bytes.old) }
+    ensures back { OnOk result (read_of P.named bytes.new ≡ Ok call.now) }
 {
     if bytes.len() < RECORD {
         Err(Refusal::ShortRecord)

@@ -29,8 +29,8 @@ pub fn judge<P: Payload, S: Scheme<P>>(
     scheme: &mut S,
     bytes: &[u8],
 ) -> Result<Option<bool>, Refusal>
-    ensures answer { result ≡ judged (S.Scheme.meaning scheme.old) (read_of named bytes.now) }
-    ensures same { S.Scheme.meaning scheme.new ≡ S.Scheme.meaning scheme.old }
+    ensures answer { result ≡ judged (S.meaning scheme.old) (read_of named bytes.now) }
+    ensures same { S.meaning scheme.new ≡ S.meaning scheme.old }
 {
     match vote_of(read::<P>(bytes)?) {
         Some(vote) => Ok(Some(is_good(scheme, vote))),
@@ -39,7 +39,7 @@ pub fn judge<P: Payload, S: Scheme<P>>(
 }
 
 fn sign_vote<P: Payload>(directory: &Directory, vote: Vote<P>) -> Option<Vote<P>>
-    ensures { result ≡ signed_vote P.Payload.words (keys_of directory.now) vote }
+    ensures { result ≡ signed_vote P.words (keys_of directory.now) vote }
 {
     let Vote {
         subject,
@@ -55,7 +55,7 @@ fn sign_vote<P: Payload>(directory: &Directory, vote: Vote<P>) -> Option<Vote<P>
 // The call with a good signature on its vote, if the signer is a participant. A call without a vote
 // stays as it is.
 pub fn sign_call<P: Payload>(directory: &Directory, call: Call<P>) -> Option<Call<P>>
-    ensures { result ≡ signed_call P.Payload.words (keys_of directory.now) call }
+    ensures { result ≡ signed_call P.words (keys_of directory.now) call }
 {
     match call {
         Call::NetworkVote(key, vote) => Some(Call::NetworkVote(key, sign_vote(directory, vote)?)),

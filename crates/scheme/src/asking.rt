@@ -21,10 +21,10 @@ pub fn ask<P: Payload, S: Scheme<P>>(
     attestations: &[Attestation],
     verdicts: &mut [bool],
 ) -> Answers<S::Certificate>
-    ensures verdicts { verdicts.new ≡ answered (λ a. (S.Scheme.meaning scheme.old).good subject a) attestations.now verdicts.old }
-    ensures optimistic { result.optimistic ≡ (S.Scheme.meaning scheme.old).optimistic subject attestations.now }
-    ensures assembled { result.assembled ≡ (S.Scheme.meaning scheme.old).assembled subject attestations.now }
-    ensures same { S.Scheme.meaning scheme.new ≡ S.Scheme.meaning scheme.old }
+    ensures verdicts { verdicts.new ≡ answered (λ a. (S.meaning scheme.old).good subject a) attestations.now verdicts.old }
+    ensures optimistic { result.optimistic ≡ (S.meaning scheme.old).optimistic subject attestations.now }
+    ensures assembled { result.assembled ≡ (S.meaning scheme.old).assembled subject attestations.now }
+    ensures same { S.meaning scheme.new ≡ S.meaning scheme.old }
 {
     scheme.verify_attestations(subject, attestations, verdicts);
     let optimistic = scheme.optimistic_assemble(subject, attestations);
@@ -43,18 +43,18 @@ pub fn ask_pile<P: Payload, S: Scheme<P>>(
     attestations: &[Attestation],
     verdicts: &mut [bool],
 ) -> Answers<S::Certificate>
-    ensures verdicts { verdicts.new ≡ answered (λ a. (layered (layered S.Scheme.meaning) pile.old).good subject a) attestations.now verdicts.old }
-    ensures optimistic { result.optimistic ≡ (layered (layered S.Scheme.meaning) pile.old).optimistic subject attestations.now }
-    ensures assembled { result.assembled ≡ (layered (layered S.Scheme.meaning) pile.old).assembled subject attestations.now }
-    ensures same { layered (layered S.Scheme.meaning) pile.new ≡ layered (layered S.Scheme.meaning) pile.old }
+    ensures verdicts { verdicts.new ≡ answered (λ a. (layered (layered S.meaning) pile.old).good subject a) attestations.now verdicts.old }
+    ensures optimistic { result.optimistic ≡ (layered (layered S.meaning) pile.old).optimistic subject attestations.now }
+    ensures assembled { result.assembled ≡ (layered (layered S.meaning) pile.old).assembled subject attestations.now }
+    ensures same { layered (layered S.meaning) pile.new ≡ layered (layered S.meaning) pile.old }
 {
     ask(pile, subject, attestations, verdicts)
 }
 
 // Whether a vote's signature is good for its subject.
 pub fn is_good<P: Payload, S: Scheme<P>>(scheme: &mut S, vote: Vote<P>) -> bool
-    ensures answer { result ≡ (S.Scheme.meaning scheme.old).good vote.subject vote.attestation }
-    ensures same { S.Scheme.meaning scheme.new ≡ S.Scheme.meaning scheme.old }
+    ensures answer { result ≡ (S.meaning scheme.old).good vote.subject vote.attestation }
+    ensures same { S.meaning scheme.new ≡ S.meaning scheme.old }
 {
     let mut verdicts = [false];
     scheme.verify_attestations(vote.subject, &[vote.attestation], &mut verdicts);

@@ -21,9 +21,9 @@ impl<P: Payload, S: Scheme<P>> Scheme<P> for Withdrawn<S> {
 
     const BATCHABLE: bool = S::BATCHABLE;
 
-    ghost meaning = { λ s. layered S.Scheme.meaning s };
+    ghost meaning = { λ s. layered S.meaning s };
 
-    ghost lawful = { λ s. withdrawn_lawful s.mask (S.Scheme.meaning s.below) (S.Scheme.lawful s.below) };
+    ghost lawful = { λ s. withdrawn_lawful s.mask (S.meaning s.below) (S.lawful s.below) };
 
     fn participants(&self) -> &Directory {
         self.below.participants()
@@ -39,8 +39,8 @@ impl<P: Payload, S: Scheme<P>> Scheme<P> for Withdrawn<S> {
         attestations: &[Attestation],
         verdicts: &mut [bool],
     )
-        ensures answer { verdicts.new ≡ answered (λ a. (layered S.Scheme.meaning self.old).good subject a) attestations.now verdicts.old }
-        ensures same { layered S.Scheme.meaning self.new ≡ layered S.Scheme.meaning self.old }
+        ensures answer { verdicts.new ≡ answered (λ a. (layered S.meaning self.old).good subject a) attestations.now verdicts.old }
+        ensures same { layered S.meaning self.new ≡ layered S.meaning self.old }
     {
         self.below
             .verify_attestations(subject, attestations, verdicts);
@@ -52,8 +52,8 @@ impl<P: Payload, S: Scheme<P>> Scheme<P> for Withdrawn<S> {
         subject: Subject<P>,
         attestations: &[Attestation],
     ) -> Option<S::Certificate>
-        ensures answer { result ≡ (layered S.Scheme.meaning self.old).optimistic subject attestations.now }
-        ensures same { layered S.Scheme.meaning self.new ≡ layered S.Scheme.meaning self.old }
+        ensures answer { result ≡ (layered S.meaning self.old).optimistic subject attestations.now }
+        ensures same { layered S.meaning self.new ≡ layered S.meaning self.old }
     {
         if any_masked(self.mask, attestations) {
             return None;
@@ -66,8 +66,8 @@ impl<P: Payload, S: Scheme<P>> Scheme<P> for Withdrawn<S> {
         subject: Subject<P>,
         attestations: &[Attestation],
     ) -> Option<S::Certificate>
-        ensures answer { result ≡ (layered S.Scheme.meaning self.old).assembled subject attestations.now }
-        ensures same { layered S.Scheme.meaning self.new ≡ layered S.Scheme.meaning self.old }
+        ensures answer { result ≡ (layered S.meaning self.old).assembled subject attestations.now }
+        ensures same { layered S.meaning self.new ≡ layered S.meaning self.old }
     {
         if any_masked(self.mask, attestations) {
             return None;

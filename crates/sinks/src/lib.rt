@@ -1,4 +1,6 @@
 // Sinks, which take pairs of numbers, and slips, which are settled with one.
+#![tactic(auto)]
+
 pub mod counter;
 pub mod log;
 pub mod optional;

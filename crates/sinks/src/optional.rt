@@ -6,7 +6,7 @@ use crate::sink::Sink;
 
 // A sink that may be absent. An absent one has no room.
 impl<S: Sink> Sink for Option<S> {
-    ghost account = { option_account S.Sink.account };
+    ghost account = { option_account S.account };
 
     ghost fresh = { Prim.search rules };
 

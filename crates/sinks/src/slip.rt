@@ -65,7 +65,7 @@ pub trait Settle<B: Sink> {
     // cause, the sink stays as it is, in all that it holds.
     fn settle(self, sink: &mut B) -> Ruling
         ensures result { result ≡ rulingOf self }
-        ensures account { B.Sink.account sink.new ≡ settled (rulingOf self) (B.Sink.account sink.old) }
+        ensures account { B.account sink.new ≡ settled (rulingOf self) (B.account sink.old) }
         ensures untold { (rulingOf self).cause ≡ None → sink.new ≡ sink.old };
 }
 

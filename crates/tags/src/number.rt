@@ -32,7 +32,7 @@ fn mix(kind: Kind, round: Rnd, parent: u64, words: Words) -> u64
 
 // The number by which a subject is signed.
 pub fn number<P: Payload>(subject: Subject<P>) -> u64
-    ensures value { result ≡ number_of P.Payload.words subject }
+    ensures value { result ≡ number_of P.words subject }
     ensures small { result < prime }
 {
     match subject {

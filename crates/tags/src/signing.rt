@@ -22,8 +22,8 @@ pub fn sign<P: Payload>(
     subject: Subject<P>,
     signer: u32,
 ) -> Option<Attestation>
-    ensures value { result ≡ signed_of (keys_of directory.now) (number_of P.Payload.words subject) signer }
-    ensures good { IfSome result (λ a. tagged (keys_of directory.now) (number_of P.Payload.words subject) a ≡ true) }
+    ensures value { result ≡ signed_of (keys_of directory.now) (number_of P.words subject) signer }
+    ensures good { IfSome result (λ a. tagged (keys_of directory.now) (number_of P.words subject) a ≡ true) }
 {
     let keys = directory.keys();
     if signer as usize >= keys.len() {

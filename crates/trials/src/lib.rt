@@ -1,4 +1,6 @@
 // Tables of limits and refusals, run against the proved crates.
+#![tactic(auto)]
+
 #[cfg(test)]
 mod directories;
 #[cfg(test)]

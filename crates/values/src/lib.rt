@@ -1,5 +1,7 @@
 // The values of a vote-counting round: rounds, payloads, proposals, subjects, attestations and
 // votes; the refusals, causes and activities with their numbers; equality by named functions.
+#![tactic(auto)]
+
 pub mod activity;
 pub mod cause;
 pub mod payload;

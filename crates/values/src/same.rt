@@ -21,21 +21,21 @@ pub fn same_words(a: &Words, b: &Words) -> bool
 }
 
 pub fn same_payload<P: Payload>(a: &P, b: &P) -> bool
-    ensures value { result ≡ same_words (words a.now) (words b.now) }
+    ensures value { result ≡ same_words (P.words a.now) (P.words b.now) }
     ensures equal { Decides result (a.now ≡ b.now) }
 {
     same_words(&a.to_words(), &b.to_words())
 }
 
 pub fn same_proposal<P: Payload>(a: &Proposal<P>, b: &Proposal<P>) -> bool
-    ensures value { result ≡ same_proposal words a.now b.now }
+    ensures value { result ≡ same_proposal P.words a.now b.now }
     ensures equal { Decides result (a.now ≡ b.now) }
 {
     same_round(&a.round, &b.round) && a.parent == b.parent && same_payload(&a.payload, &b.payload)
 }
 
 pub fn same_subject<P: Payload>(a: &Subject<P>, b: &Subject<P>) -> bool
-    ensures value { result ≡ same_subject words a.now b.now }
+    ensures value { result ≡ same_subject P.words a.now b.now }
     ensures equal { Decides result (a.now ≡ b.now) }
 {
     match (a, b) {
@@ -54,7 +54,7 @@ pub fn same_attestation(a: &Attestation, b: &Attestation) -> bool
 }
 
 pub fn same_vote<P: Payload>(a: &Vote<P>, b: &Vote<P>) -> bool
-    ensures value { result ≡ same_vote words a.now b.now }
+    ensures value { result ≡ same_vote P.words a.now b.now }
     ensures equal { Decides result (a.now ≡ b.now) }
 {
     same_subject(&a.subject, &b.subject) && same_attestation(&a.attestation, &b.attestation)

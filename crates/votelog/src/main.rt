@@ -1,5 +1,7 @@
 // votelog: shows files of call records in words, writes such words back as records, and checks the
 // signatures of votes.
+#![tactic(auto)]
+
 mod commands;
 mod files;
 mod options;

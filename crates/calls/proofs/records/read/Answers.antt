@@ -12,9 +12,9 @@ returns g c =
     let named = g.P.Payload.named in
     record {
       value =
-          c.to-call.ensures ∙ ap (read_fields named) c.from-bytes.ensures.value
+          c.to_call.ensures ∙ ap (read_fields named) c.from_bytes.ensures.value
           ∙ sym (cond-false (ltb (length b) 88) (Err ShortRecord) (read_fields named (fields_in b)) (le-ltb (length b) 88 c.if-bytes-lt-RECORD.false));
       only =
-          only_writing g.P.Payload.words named g.met.P.Payload.sound c.to-call.result c.from-bytes.result (take 88 b)
-          c.to-call.ensures c.from-bytes.ensures.exact;
+          only_writing g.P.Payload.words named g.met.P.Payload.sound c.to_call.result c.from_bytes.result (take 88 b)
+          c.to_call.ensures c.from_bytes.ensures.exact;
     }

@@ -27,8 +27,8 @@ returns g c =
     let t : Told words named k =
     elim c.match-proposal.branch [
       | in-Some-proposal w ↦
-          told_some words named k w.in-Some-proposal.proposal w.to-words.result (sym c.proposal.ensures ∙ w.in-Some-proposal.is)
-          w.to-words.ensures.value w.to-words.ensures.back
+          told_some words named k w.in-Some-proposal.proposal w.to_words.result (sym c.proposal.ensures ∙ w.in-Some-proposal.is)
+          w.to_words.ensures.value w.to_words.ensures.back
       | in-None-proposal w ↦ told_none words named k (sym c.proposal.ensures ∙ w.in-None-proposal.is)
     ] in
     record { value = v; back = ap (read_fields named) v ∙ fields_back words named k t }
