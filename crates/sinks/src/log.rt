@@ -60,6 +60,8 @@ impl<'a> Log<'a> {
 impl Sink for Log<'_> {
     ghost account = { log_account };
 
+    ghost fresh = { λ s. s.written.fresh };
+
     // Where there is room, the pair's bytes are written behind those of the pairs before it, and all
     // other bytes stay as they are; else all of them do.
     fn tell(&mut self, pair: Pair)

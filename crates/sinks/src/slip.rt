@@ -59,18 +59,18 @@ impl Slip {
 // What is settled with a sink of the kind B.
 pub trait Settle<B: Sink> {
     // The ruling that is to be settled.
-    ghost rulingOf: { Self → Ruling };
+    ghost ruling_of: { Self → Ruling };
 
     // Tells the sink the sender's key and the cause's number, and gives the ruling back. Without a
     // cause, the sink stays as it is, in all that it holds.
     fn settle(self, sink: &mut B) -> Ruling
-        ensures result { result ≡ rulingOf self }
-        ensures account { B.account sink.new ≡ settled (rulingOf self) (B.account sink.old) }
-        ensures untold { (rulingOf self).cause ≡ None → sink.new ≡ sink.old };
+        ensures result { result ≡ ruling_of self }
+        ensures account { B.account sink.new ≡ settled (ruling_of self) (B.account sink.old) }
+        ensures untold { (ruling_of self).cause ≡ None → sink.new ≡ sink.old };
 }
 
 impl<B: Sink> Settle<B> for Slip {
-    ghost rulingOf = { λ s. s.ruling };
+    ghost ruling_of = { λ s. s.ruling };
 
     fn settle(self, sink: &mut B) -> Ruling {
         let Slip { ruling } = self;

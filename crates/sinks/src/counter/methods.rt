@@ -1,7 +1,6 @@
 ghost use Rattle.std.specs.Prelude.{◌≡◌, ◌-◌, ◌^◌};
 ghost use Rattle.sinks.specs.Sinks.{empty};
 ghost use Rattle.sinks.specs.Ends.{counter_account};
-ghost use Rattle.std.proofs.Common.{rules, arith};
 
 use crate::counter::Counter;
 use crate::pair::Pair;
@@ -46,7 +45,7 @@ impl Counter {
 impl Sink for Counter {
     ghost account = { counter_account };
 
-    ghost fresh = { first_of (Prim.search rules, Prim.grind (arith, Self.row.coded.inj)) };
+    ghost fresh = { λ s. s.fresh };
 
     fn tell(&mut self, pair: Pair) {
         if self.count < u64::MAX {

@@ -14,7 +14,7 @@ loop-i-preserved c =
     let f : Attestation → Bool → Bool = λ a _. tagged (keys_of c.args.directory.now) c.args.number a in
     let h : i < length l = omega arith in
     let k : i < length v = omega arith in
-    ap (λ t. set u i t) c.is-tagged.ensures ∙ beside_more f nobody false l v u i h k c.loop-i.invariant
+    ap (λ t. set u i t) c.is_tagged.ensures ∙ beside_more f nobody false l v u i h k c.loop-i.invariant
 
 pub returns : goal.returns
 returns c =

@@ -4,12 +4,12 @@ use Rattle.scheme.specs.Layers.{any_masked}
 use Rattle.scheme.proofs.Beside.{nobody}
 use Rattle.scheme.proofs.mask.any_masked.Goals as goal
 
-pub returns-then-is-masked : goal.returns-then-is-masked
-returns-then-is-masked c =
+pub returns-then-is_masked : goal.returns-then-is_masked
+returns-then-is_masked c =
     let l = c.args.attestations.now in
     let i = c.loop-i.i in
     sym (at_drop_more (any_masked c.args.mask) l i nobody c.loop-i-test.true
-    ∙ ap (λ t. t || any_masked c.args.mask (drop (i + 1) l)) (sym c.if-is-masked.ensures))
+    ∙ ap (λ t. t || any_masked c.args.mask (drop (i + 1) l)) (sym c.if-is_masked.ensures))
     ∙ c.loop-i.invariant
 
 pub loop-i-preserved : goal.loop-i-preserved
@@ -17,7 +17,7 @@ loop-i-preserved c =
     let l = c.args.attestations.now in
     let i = c.loop-i.i in
     sym (at_drop_more (any_masked c.args.mask) l i nobody c.loop-i-test.true
-    ∙ ap (λ t. t || any_masked c.args.mask (drop (i + 1) l)) (sym c.if-is-masked.ensures))
+    ∙ ap (λ t. t || any_masked c.args.mask (drop (i + 1) l)) (sym c.if-is_masked.ensures))
     ∙ c.loop-i.invariant
 
 pub returns : goal.returns

@@ -13,7 +13,7 @@ loop-i-preserved c =
     let f : Attestation → Bool → Bool = λ a x. x && not (bit c.args.mask a.signer) in
     let h : i < length l = omega arith in
     let k : i < length v = omega arith in
-    ap (λ t. set u i (get_or u i false && not t)) c.is-masked.ensures
+    ap (λ t. set u i (get_or u i false && not t)) c.is_masked.ensures
     ∙ beside_more f nobody false l v u i h k c.loop-i.invariant
 
 pub returns : goal.returns

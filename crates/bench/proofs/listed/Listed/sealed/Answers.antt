@@ -8,7 +8,7 @@ pub returns : goal.returns
 returns c =
     let keys = keys_of c.args.self.now.directory in
     let l = c.args.attestations.now in
-    let q = c.in-ok-slate.ensures in
-    slate_sealed listed_seal listed_picky keys l c.in-ok-slate.slate c.size-n.result c.size-n.ensures.value c.size-n.ensures.most q.1
-    c.mask-of-mask.result c.listed-seal-seal.result c.mask-of-mask.ensures c.listed-seal-seal.ensures
-    ∙ sym (listed_some keys c.args.number l q.0 (sym c.if-not-all-tagged.ensures))
+    let q = c.in_ok-slate.ensures in
+    slate_sealed listed_seal listed_picky keys l c.in_ok-slate.slate c.size-n.result c.size-n.ensures.value c.size-n.ensures.most q.1
+    c.mask_of-mask.result c.listed_seal-seal.result c.mask_of-mask.ensures c.listed_seal-seal.ensures
+    ∙ sym (listed_some keys c.args.number l q.0 (sym c.if-not-all_tagged.ensures))

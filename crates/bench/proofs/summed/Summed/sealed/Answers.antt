@@ -8,7 +8,7 @@ pub returns : goal.returns
 returns c =
     let keys = keys_of c.args.self.now.directory in
     let l = c.args.attestations.now in
-    let q = c.in-ok-slate.ensures in
-    slate_sealed summed_seal summed_picky keys l c.in-ok-slate.slate c.size-n.result c.size-n.ensures.value c.size-n.ensures.most q.1
-    c.mask-of-mask.result c.summed-seal-seal.result c.mask-of-mask.ensures c.summed-seal-seal.ensures
+    let q = c.in_ok-slate.ensures in
+    slate_sealed summed_seal summed_picky keys l c.in_ok-slate.slate c.size-n.result c.size-n.ensures.value c.size-n.ensures.most q.1
+    c.mask_of-mask.result c.summed_seal-seal.result c.mask_of-mask.ensures c.summed_seal-seal.ensures
     ∙ sym (summed_some keys l q.0)

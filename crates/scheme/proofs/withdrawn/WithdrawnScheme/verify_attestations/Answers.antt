@@ -14,7 +14,7 @@ returns g c =
     record {
       answer =
           c.strike.ensures
-          ∙ ap (λ v. beside struck l v) c.verify-attestations.ensures.answer
+          ∙ ap (λ v. beside struck l v) c.verify_attestations.ensures.answer
           ∙ beside_beside good struck l c.args.verdicts.now;
-      same = ap (withdrawn_meaning mask) c.verify-attestations.ensures.same;
+      same = ap (withdrawn_meaning mask) c.verify_attestations.ensures.same;
     }
