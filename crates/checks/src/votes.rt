@@ -29,7 +29,7 @@ pub fn judge<P: Payload, S: Scheme<P>>(
     scheme: &mut S,
     bytes: &[u8],
 ) -> Result<Option<bool>, Refusal>
-    ensures answer { result ≡ judged (S.meaning scheme.old) (read_of named bytes.now) }
+    ensures answer { result ≡ judged (S.meaning scheme.old) (read_of P.named bytes.now) }
     ensures same { S.meaning scheme.new ≡ S.meaning scheme.old }
 {
     match vote_of(read::<P>(bytes)?) {

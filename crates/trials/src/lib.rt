@@ -4,6 +4,8 @@
 #[cfg(test)]
 mod directories;
 #[cfg(test)]
+mod ends;
+#[cfg(test)]
 mod printed;
 #[cfg(test)]
 mod records;
@@ -11,7 +13,5 @@ mod records;
 mod samples;
 #[cfg(test)]
 mod schemes;
-#[cfg(test)]
-mod sinks;
 #[cfg(test)]
 mod spoken;

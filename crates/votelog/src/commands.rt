@@ -10,6 +10,14 @@ use phrases::{checking, showing};
 use std::io;
 use std::io::Write;
 
+// Standard output behind a buffer.
+fn buffered(rt: &HostRuntime) -> Result<io::BufWriter<io::Stdout>, Failure> {
+    match io::BufWriter::new(rt.alloc(), rt.stdout()) {
+        Ok(out) => Ok(out),
+        Err(_) => Err(Failure::Memory),
+    }
+}
+
 // Prints the records of a file in words, under the directory if there is one.
 pub(crate) fn show<P: Spoken>(rt: &HostRuntime, asked: &ShowFiles) -> Result<(), Failure> {
     let bytes = bytes_of(rt, asked.calls.as_str())?;
@@ -17,7 +25,7 @@ pub(crate) fn show<P: Spoken>(rt: &HostRuntime, asked: &ShowFiles) -> Result<(),
         Some(path) => Some(keys_of(rt, path.as_str())?),
         None => None,
     };
-    let mut out = io::BufWriter::new(rt.stdout());
+    let mut out = buffered(rt)?;
     let told = showing::tell_all::<P, io::BufWriter<io::Stdout>>(
         rt.alloc(),
         &mut out,
@@ -55,7 +63,7 @@ pub(crate) fn write<P: Spoken>(rt: &HostRuntime, asked: &WriteFiles) -> Result<(
 pub(crate) fn check<P: Spoken>(rt: &HostRuntime, asked: &CheckFiles) -> Result<(), Failure> {
     let bytes = bytes_of(rt, asked.calls.as_str())?;
     let keys = keys_of(rt, asked.keys.as_str())?;
-    let mut out = io::BufWriter::new(rt.stdout());
+    let mut out = buffered(rt)?;
     let told = checking::check::<P, io::BufWriter<io::Stdout>>(
         &mut out,
         keys.as_slice(),

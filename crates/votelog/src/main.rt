@@ -8,6 +8,7 @@ mod options;
 
 use options::{Command, PayloadKind};
 use phrases::failure::Failure;
+use std::process::ExitCode;
 use values::payload::{BlockName, Digest};
 
 const HELP: &str = "votelog: files of vote-counting calls, in words and as records
@@ -24,10 +25,6 @@ votelog check CALLS --keys KEYS [--scheme listed|summed] [--withdrawn HEXMASK]
 votelog --help
 votelog --version";
 
-// What ends the program with status 1. Its message has been printed.
-#[derive(Drop)]
-struct Failed;
-
 fn run(rt: &HostRuntime) -> Result<(), Failure> {
     match options::asked(rt)? {
         Command::Help => Ok(rt.println(HELP)?),
@@ -41,12 +38,13 @@ fn run(rt: &HostRuntime) -> Result<(), Failure> {
     }
 }
 
-fn main(rt: HostRuntime) -> Result<(), Failed> {
+// What went wrong is told on one line, and ends the program with status 1.
+fn main(rt: HostRuntime) -> ExitCode {
     match run(&rt) {
-        Ok(()) => Ok(()),
+        Ok(()) => ExitCode::SUCCESS,
         Err(failure) => {
             failure.tell(&rt);
-            Err(Failed)
+            ExitCode::FAILURE
         }
     }
 }
