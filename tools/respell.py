@@ -5,7 +5,7 @@ usage: python3 tools/respell.py [FOLDER]     once, right after the kit's port.py
 
 Definitions and lemmas of specs/ and proofs/ are in snake case: keysOf becomes keys_of, place-here
 place_here. Types, modules, functions of src/ and the names that the check itself makes keep theirs.
-Prints each renaming, and stops where two names would fall together.
+Prints each renaming, and beside it, after `look:`, names that would fall together.
 """
 import os
 import re
