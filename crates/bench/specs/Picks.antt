@@ -1,4 +1,5 @@
--- Folds over the participants below n that a test picks; the mask of such a test, and its bits.
+-- Lemmas for the proofs of the laws, no definitions: folds over the participants below n that a test picks; the mask
+-- of such a test, and its bits.
 use Rattle.std.specs.Prelude.{◌≡◌, ℕ, zero, suc, ◌+◌, ◌-◌, ◌*◌, ◌/◌, ◌%◌, ◌^◌, ◌<◌, Bool, true, false, ◌||◌, ◌==◌, nat_eq, refl}
 use Rattle.std.proofs.Common.{sym, ◌∙◌, ap, inl, inr, arith, pow-suc, add-one}
 use Rattle.std.proofs.Math.Nat.{add-mul-div_left, div-eq_of_lt, add-div_right}

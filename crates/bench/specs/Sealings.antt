@@ -1,4 +1,5 @@
--- Certificates that are a mask and a seal: what is sealed of good attestations is valid.
+-- Lemmas, no definitions that a contract cites: what is sealed of good attestations is valid, and that Listed and
+-- Summed keep the laws.
 use Rattle.std.specs.Prelude.{◌≡◌, ℕ, ◌+◌, ◌*◌, ◌%◌, ◌^◌, ◌<◌, ◌≤◌, Bool, true, false, cond, ◌&&◌, ◌||◌, ltb, leb, List, [], ◌∷◌, length, IsSomeAnd, IfSome, Some, None, ◌==◌, ◌≢◌, nat_eq, nat_le, nat_lt, refl}
 use Rattle.std.proofs.Common.{sym, ◌∙◌, ap, subst, inl, inr, arith}
 use Rattle.std.proofs.lemmas.Bool.{eq-eqb, eqb-true, ne_eqb, cond-true, cond-false, cases_Bool, and_parts, and_from, lt-ltb, both_ways}

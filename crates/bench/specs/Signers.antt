@@ -1,4 +1,4 @@
--- Lists of attestations: who signed, and that signers differ.
+-- Lemmas for the proofs of the laws, no definitions: lists of attestations, who signed, and that signers differ.
 use Rattle.std.specs.Prelude.{◌≡◌, ℕ, ◌+◌, ◌<◌, ◌≤◌, Bool, true, false, cond, not, ◌&&◌, ◌||◌, List, [], ◌∷◌, ◌++◌, length, take, drop, ◌==◌, ◌≢◌, nat_le, nat_lt, slice_index, slice_index_or, slice_set, refl}
 use Rattle.std.proofs.Common.{sym, ◌∙◌, ap, subst, inl, inr, arith, get_or-set_same, get_or-set_other}
 use Rattle.std.proofs.lemmas.Bool.{eq-eqb, ne_eqb, eqb-true, eqb-false, cond-true, cond-false, cases_eq, and_parts, and_from, and_left, and_right, or_left, or_right, or_parts, or_cases, or_from, not-true, not_from_true, lt-ltb, le-ltb, le-leb, both_ways, ltb-true}

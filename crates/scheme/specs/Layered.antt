@@ -1,4 +1,4 @@
--- A layer with a mask keeps the laws.
+-- Lemmas, no definitions: a layer with a mask keeps the laws.
 use Rattle.std.specs.Prelude.{◌≡◌, ℕ, Bool, true, false, cond, not, ◌&&◌, List, [], ◌∷◌, IsSomeAnd, IfSome, None, Option, refl}
 use Rattle.std.proofs.Common.{sym, ◌∙◌, subst, inl, inr}
 use Rattle.std.proofs.lemmas.Bool.{cond-true, cond-false, cases_Bool, and_parts, and_from, or_from, not-true}
