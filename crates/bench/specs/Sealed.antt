@@ -1,5 +1,7 @@
 -- Certificates that are a mask of signers and a seal: what Listed and Summed answer, and what they mean. Assumes nothing.
-use Rattle.std.specs.Prelude.{ℕ, zero, suc, ◌+◌, ◌*◌, ◌%◌, ◌^◌, Bool, true, false, cond, ◌&&◌, List, [], ◌∷◌, length, Some, None, Option, ◌==◌, nat_le, nat_lt}
+use Rattle.std.specs.Prelude.{ℕ, zero, suc, ◌+◌, ◌*◌, ◌%◌, ◌^◌, Bool, true, false, cond, ◌&&◌, List, length, Some, None, Option, ◌==◌, nat_le, nat_lt}
+use Rattle.std.specs.List.{find}
+use Rattle.std.specs.Option.{option_map, unwrap_or}
 use Rattle.directory.specs.Directories.{quorum, keys_of}
 use Rattle.scheme.specs.Layers.{bit}
 use Rattle.scheme.specs.Meaning.{Meaning, signed_by, quorate, every}
@@ -11,10 +13,13 @@ use Rattle.bench.specs.declared.masked.Masked.{Masked}
 use Rattle.bench.specs.declared.listed.Listed.{Listed}
 use Rattle.bench.specs.declared.summed.Summed.{Summed}
 
--- the signature that participant s gave
+-- the signature that participant s gave, if it did
+abbrev pub signature_by : ℕ → List Attestation → Option ℕ
+signature_by s l = option_map (λ a. a.signature) (find (λ a. a.signer == s) l)
+
+-- that signature, or 0
 abbrev pub signature_of : ℕ → List Attestation → ℕ
-signature_of s [] = 0
-signature_of s (a ∷ l) = cond (a.signer == s) a.signature (signature_of s l)
+signature_of s l = unwrap_or (signature_by s l) 0
 
 -- from 0, over the participants below n that p picks, ascending
 abbrev pub fold_up_to : (ℕ → ℕ → ℕ) → ℕ → (ℕ → Bool) → (ℕ → ℕ) → ℕ

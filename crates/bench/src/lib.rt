@@ -5,4 +5,5 @@ pub mod listed;
 pub mod masked;
 mod slate;
 pub mod summed;
+mod tagged;
 pub mod worked;

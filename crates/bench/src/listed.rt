@@ -1,26 +1,31 @@
-ghost use Rattle.std.specs.Prelude.{◌≡◌};
+ghost use Rattle.std.specs.Prelude.{◌≡◌, ◌+◌, ◌*◌, ◌%◌};
 ghost use Rattle.directory.specs.Directories.{keys_of};
 ghost use Rattle.scheme.specs.Meaning.{answered};
+ghost use Rattle.tags.specs.Numbers.{prime};
 ghost use Rattle.bench.specs.Sealed.{listed_meaning, listed_answer};
 ghost use Rattle.bench.specs.Sealings.{listed_lawful};
 
 use crate::masked::Masked;
-use crate::slate::{all_tagged, gather, listed_seal, mask_of, tag_verdicts};
+use crate::slate::Slate;
+use crate::tagged::{all_tagged, tag_verdicts};
 use directory::directory::Directory;
 use scheme::scheme::Scheme;
-use tags::number::number;
+use tags::number::{PRIME, number};
 use values::payload::Payload;
 use values::types::{Attestation, Subject};
 
+// For the trait's constant and its function both, as a proof does not see the constant's value.
 const LISTED_BATCHABLE: bool = false;
 
 // A scheme that judges each attestation, and whose seal lists the signatures in the order of their
 // signers.
-#[derive(Clone, Copy)]
+#[derive(Clone, Copy, Debug, PartialEq, Eq)]
 pub struct Listed {
     pub directory: Directory,
 }
 
+// Beside Summed's, which answers otherwise: a trait of another crate has no impl for a type
+// parameter. The check cannot give three methods the trait's clauses yet, so they stand again.
 impl<P: Payload> Scheme<P> for Listed {
     type Certificate = Masked;
 
@@ -74,13 +79,17 @@ impl Listed {
     fn sealed(&self, number: u64, attestations: &[Attestation]) -> Option<Masked>
         ensures { result ≡ listed_answer (keys_of self.now.directory) number attestations.now }
     {
-        let slate = gather(&self.directory, attestations)?;
+        let slate = Slate::gather(&self.directory, attestations)?;
         if !all_tagged(&self.directory, number, attestations) {
             return None;
         }
-        let n = self.directory.size();
-        let mask = mask_of(&slate, n);
-        let seal = listed_seal(&slate, n);
-        Some(Masked { mask, seal })
+        Some(slate.certificate(list))
     }
+}
+
+// A seal with one more signature in it. Both are taken modulo the prime first, so that any fit.
+fn list(seal: u64, signature: u64) -> u64
+    ensures { result ≡ (31 * seal + signature) % prime }
+{
+    (31 * (seal % PRIME) + signature % PRIME) % PRIME
 }

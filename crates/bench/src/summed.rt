@@ -1,25 +1,30 @@
-ghost use Rattle.std.specs.Prelude.{◌≡◌};
+ghost use Rattle.std.specs.Prelude.{◌≡◌, ◌+◌, ◌%◌};
 ghost use Rattle.directory.specs.Directories.{keys_of};
 ghost use Rattle.scheme.specs.Meaning.{answered};
+ghost use Rattle.tags.specs.Numbers.{prime, tag_at};
 ghost use Rattle.bench.specs.Sealed.{summed_meaning, summed_answer, summed_optimistic};
 ghost use Rattle.bench.specs.Sealings.{summed_lawful};
 
 use crate::masked::Masked;
-use crate::slate::{gather, mask_of, summed_seal, summed_tags, tag_verdicts};
+use crate::slate::Slate;
+use crate::tagged::tag_verdicts;
 use directory::directory::Directory;
 use scheme::scheme::Scheme;
-use tags::number::number;
+use tags::number::{PRIME, number, tag};
 use values::payload::Payload;
 use values::types::{Attestation, Subject};
 
+// For the trait's constant and its function both, as a proof does not see the constant's value.
 const SUMMED_BATCHABLE: bool = true;
 
 // A scheme that makes its certificates of sums, and so can judge a whole list by one.
-#[derive(Clone, Copy)]
+#[derive(Clone, Copy, Debug, PartialEq, Eq)]
 pub struct Summed {
     pub directory: Directory,
 }
 
+// Beside Listed's, which answers otherwise: a trait of another crate has no impl for a type
+// parameter. The check cannot give three methods the trait's clauses yet, so they stand again.
 impl<P: Payload> Scheme<P> for Summed {
     type Certificate = Masked;
 
@@ -73,24 +78,35 @@ impl Summed {
     fn sealed(&self, attestations: &[Attestation]) -> Option<Masked>
         ensures { result ≡ summed_answer (keys_of self.now.directory) attestations.now }
     {
-        let slate = gather(&self.directory, attestations)?;
-        let n = self.directory.size();
-        let mask = mask_of(&slate, n);
-        let seal = summed_seal(&slate, n);
-        Some(Masked { mask, seal })
+        let slate = Slate::gather(&self.directory, attestations)?;
+        Some(slate.certificate(add))
     }
 
     // The certificate of a quorum whose signatures add up to what their tags would.
     fn sealed_if_valid(&self, number: u64, attestations: &[Attestation]) -> Option<Masked>
         ensures { result ≡ summed_optimistic (keys_of self.now.directory) number attestations.now }
     {
-        let slate = gather(&self.directory, attestations)?;
-        let n = self.directory.size();
-        let mask = mask_of(&slate, n);
-        let seal = summed_seal(&slate, n);
-        if seal != summed_tags(&self.directory, number, &slate) {
+        let slate = Slate::gather(&self.directory, attestations)?;
+        let certificate = slate.certificate(add);
+        let tags = slate.fold(|sum, signer, _| add(sum, self.tag_at(signer, number)));
+        if certificate.seal != tags {
             return None;
         }
-        Some(Masked { mask, seal })
+        Some(certificate)
     }
+
+    // The tag of a participant, or 0 where there is none.
+    fn tag_at(&self, signer: usize, number: u64) -> u64
+        ensures { result ≡ tag_at (keys_of self.now.directory) number signer }
+    {
+        let key = self.directory.keys().get(signer).copied().unwrap_or(0);
+        tag(key, number)
+    }
+}
+
+// A sum with one more number in it. Both are taken modulo the prime first, so that any fit.
+fn add(sum: u64, x: u64) -> u64
+    ensures { result ≡ (sum + x) % prime }
+{
+    (sum % PRIME + x % PRIME) % PRIME
 }

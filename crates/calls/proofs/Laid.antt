@@ -1,15 +1,12 @@
 -- A record's bytes and its fields: each gives the other back.
-use Rattle.std.proofs.Common.{◌≡◌, ℕ, ◌+◌, ◌<◌, ◌≤◌, List, ◌++◌, length, get_or, take, drop, sym, ap, ◌∙◌, subst, inl, inr, arith, get_or-drop, get_or-take, take-add}
-use Rattle.std.proofs.lemmas.List.{length-take, length-drop, get_or_past}
+use Rattle.std.proofs.Common.{◌≡◌, ℕ, ◌+◌, ◌≤◌, List, ◌++◌, length, take, drop, sym, ap, ◌∙◌, subst, inl, inr, arith, get_or-drop, get_or-take, take-add}
+use Rattle.std.proofs.lemmas.List.{length-take, length-drop, get_or_past, take-append-drop}
 use Rattle.std.proofs.lemmas.Bool.{cases_lt}
 use Rattle.values.specs.declared.payload.Words.{Words}
 use Rattle.values.specs.declared.types.Rnd.{Rnd}
 use Rattle.calls.specs.declared.fields.Fields.{Fields}
 use Rattle.calls.specs.Layout.{number_in, number_at, bytes_of, fields_in, layout}
-use Rattle.calls.proofs.Digits.{bytes_of_number}
-
-abbrev pub Bytes : List ℕ → Type 0
-Bytes b = (k : ℕ) → get_or b k 0 < 256
+use Rattle.calls.proofs.Digits.{Bytes, bytes_of_number}
 
 part_bytes : (b : List ℕ) → Bytes b → (at w : ℕ) → Bytes (take w (drop at b))
 part_bytes b h at w k =
@@ -35,49 +32,33 @@ layout_of_fields b h l =
     (join b h 20 4 _ (omega arith) (join b h 16 4 _ (omega arith) (join b h 8 8 _ (omega arith) (join b h 2 6 _ (omega arith)
     (join b h 1 1 _ (omega arith) (piece b h 0 1 (omega arith))))))))))))))
 
--- one part more behind a front
-pub longer : {x y front : List ℕ} (part : List ℕ) → x ≡ y ++ part → y ≡ front → x ≡ front ++ part
-longer part e f = e ∙ ap (λ z. z ++ part) f
+-- fields lie in the first 88 bytes
+pub fields_in_front : (f : Fields) (b : List ℕ) → layout f ≡ take 88 b → fields_in (take 88 b) ≡ fields_in b
+fields_in_front f b e =
+    ap fields_in (sym e) ∙ ap (λ x. fields_in (x ++ drop 88 b)) e ∙ ap fields_in (take-append-drop 88 b)
 
 -- records are equal when their fields are
 pub rounds_are : (r s : Rnd) → r.epoch ≡ s.epoch → r.view ≡ s.view → r ≡ s
-rounds_are r s a b =
-    let q : ◌≡◌ {A = Rnd} (record { epoch = r.epoch; view = r.view }) (record { epoch = s.epoch; view = s.view }) = cc in q
+rounds_are r s a b = λ i. record { epoch = a i; view = b i }
 
 pub words_are : (v w : Words) → v.w1 ≡ w.w1 → v.w2 ≡ w.w2 → v.w3 ≡ w.w3 → v.w4 ≡ w.w4 → v ≡ w
-words_are v w a b c d =
-    let q : ◌≡◌ {A = Words} (record { w1 = v.w1; w2 = v.w2; w3 = v.w3; w4 = v.w4 })
-    (record { w1 = w.w1; w2 = w.w2; w3 = w.w3; w4 = w.w4 }) = cc in q
+words_are v w a b c d = λ i. record { w1 = a i; w2 = b i; w3 = c i; w4 = d i }
 
 pub fields_are : (f g : Fields) → f.call ≡ g.call → f.kind ≡ g.kind → f.gap ≡ g.gap → f.key ≡ g.key →
     f.participant ≡ g.participant → f.space ≡ g.space → f.round ≡ g.round → f.parent ≡ g.parent →
     f.words ≡ g.words → f.signature ≡ g.signature → f ≡ g
-fields_are f g a b c d e h i j k l =
-    let q : ◌≡◌ {A = Fields}
-    (record {
-      call = f.call;
-      kind = f.kind;
-      gap = f.gap;
-      key = f.key;
-      participant = f.participant;
-      space = f.space;
-      round = f.round;
-      parent = f.parent;
-      words = f.words;
-      signature = f.signature;
-    })
-    (record {
-      call = g.call;
-      kind = g.kind;
-      gap = g.gap;
-      key = g.key;
-      participant = g.participant;
-      space = g.space;
-      round = g.round;
-      parent = g.parent;
-      words = g.words;
-      signature = g.signature;
-    }) = cc in q
+fields_are f g a b c d e h j k l m = λ i. record {
+  call = a i;
+  kind = b i;
+  gap = c i;
+  key = d i;
+  participant = e i;
+  space = h i;
+  round = j i;
+  parent = k i;
+  words = l i;
+  signature = m i;
+}
 
 -- each field is read back from the bytes that hold it
 pub fields_of_layout : (f : Fields) (rest : List ℕ) →
@@ -89,6 +70,4 @@ pub fields_of_layout : (f : Fields) (rest : List ℕ) →
     number_in (bytes_of 8 f.words.w2) ≡ f.words.w2 → number_in (bytes_of 8 f.words.w3) ≡ f.words.w3 →
     number_in (bytes_of 8 f.words.w4) ≡ f.words.w4 → number_in (bytes_of 8 f.signature) ≡ f.signature →
     fields_in (layout f ++ rest) ≡ f
-fields_of_layout f rest a b c d e h i j k l m n o p =
-    let g = fields_in (layout f ++ rest) in
-    fields_are g f a b c d e h (rounds_are g.round f.round i j) k (words_are g.words f.words l m n o) p
+fields_of_layout f rest a b c d e h i j k l m n o p = rw (a, b, c, d, e, h, i, j, k, l, m, n, o, p)

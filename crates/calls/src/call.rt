@@ -2,11 +2,11 @@ ghost use Rattle.std.specs.Prelude.{◌≡◌, Decides};
 ghost use Rattle.calls.specs.Calls.{call_number, subject_in, proposal_in, round_in, key_in, participant_in, signature_in};
 
 use values::payload::Payload;
-use values::same::{same_proposal, same_subject, same_vote};
 use values::types::{Proposal, Rnd, Subject, Vote};
 
 // What a round is asked.
-#[derive(Clone, Copy)]
+#[derive(Clone, Copy, Debug)]
+#[derive_where(PartialEq, Eq; P: Payload)]
 pub enum Call<P> {
     // a vote that came over the network, under the sender's key
     NetworkVote(u64, Vote<P>),
@@ -25,7 +25,7 @@ pub enum Call<P> {
 }
 
 impl<P: Payload> Call<P> {
-    // The call's number in a record.
+    // The call's number in a record: a table, as a variant with a value takes no number of its own.
     pub(crate) fn number(&self) -> u8
         ensures { result ≡ call_number self.now }
     {
@@ -45,8 +45,7 @@ impl<P: Payload> Call<P> {
         ensures { result ≡ subject_in self.now }
     {
         match self {
-            Call::NetworkVote(_, vote) => Some(vote.subject),
-            Call::ConstructedVote(vote) => Some(vote.subject),
+            Call::NetworkVote(_, vote) | Call::ConstructedVote(vote) => Some(vote.subject),
             Call::Certificate(subject) => Some(*subject),
             _ => None,
         }
@@ -60,9 +59,8 @@ impl<P: Payload> Call<P> {
             return Some(*proposal);
         }
         match self.subject()? {
-            Subject::Notarize(proposal) => Some(proposal),
+            Subject::Notarize(proposal) | Subject::Finalize(proposal) => Some(proposal),
             Subject::Nullify(_) => None,
-            Subject::Finalize(proposal) => Some(proposal),
         }
     }
 
@@ -71,8 +69,7 @@ impl<P: Payload> Call<P> {
         ensures { result ≡ round_in self.now }
     {
         match self {
-            Call::NetworkVote(_, vote) => vote.subject.round(),
-            Call::ConstructedVote(vote) => vote.subject.round(),
+            Call::NetworkVote(_, vote) | Call::ConstructedVote(vote) => vote.subject.round(),
             Call::Certificate(subject) => subject.round(),
             Call::MissingVoters(proposal) => proposal.round,
             _ => Rnd { epoch: 0, view: 0 },
@@ -94,8 +91,7 @@ impl<P: Payload> Call<P> {
         ensures { result ≡ participant_in self.now }
     {
         match self {
-            Call::NetworkVote(_, vote) => vote.attestation.signer,
-            Call::ConstructedVote(vote) => vote.attestation.signer,
+            Call::NetworkVote(_, vote) | Call::ConstructedVote(vote) => vote.attestation.signer,
             Call::Leader(leader) => *leader,
             Call::Forward(own) => *own,
             _ => 0,
@@ -107,24 +103,15 @@ impl<P: Payload> Call<P> {
         ensures { result ≡ signature_in self.now }
     {
         match self {
-            Call::NetworkVote(_, vote) => vote.attestation.signature,
-            Call::ConstructedVote(vote) => vote.attestation.signature,
+            Call::NetworkVote(_, vote) | Call::ConstructedVote(vote) => vote.attestation.signature,
             _ => 0,
         }
     }
 }
 
+// Equality by name, as of all values: a rule of the project.
 pub fn same_call<P: Payload>(a: &Call<P>, b: &Call<P>) -> bool
     ensures { Decides result (a.now ≡ b.now) }
 {
-    match (a, b) {
-        (Call::NetworkVote(j, v), Call::NetworkVote(k, w)) => j == k && same_vote(v, w),
-        (Call::ConstructedVote(v), Call::ConstructedVote(w)) => same_vote(v, w),
-        (Call::Certificate(s), Call::Certificate(t)) => same_subject(s, t),
-        (Call::Leader(i), Call::Leader(j)) => i == j,
-        (Call::Forward(i), Call::Forward(j)) => i == j,
-        (Call::Attempt, Call::Attempt) => true,
-        (Call::MissingVoters(p), Call::MissingVoters(q)) => same_proposal(p, q),
-        _ => false,
-    }
+    a == b
 }

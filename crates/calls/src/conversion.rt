@@ -12,14 +12,12 @@ impl Fields {
     fn proposal<P: Payload>(&self) -> Result<Proposal<P>, Refusal>
         ensures { result ≡ proposal_from P.named self.now }
     {
-        match P::from_words(self.words) {
-            Some(payload) => Ok(Proposal {
-                round: self.round,
-                parent: self.parent,
-                payload,
-            }),
-            None => Err(Refusal::NotPayload),
-        }
+        let payload = P::from_words(self.words).ok_or(Refusal::NotPayload)?;
+        Ok(Proposal {
+            round: self.round,
+            parent: self.parent,
+            payload,
+        })
     }
 
     fn subject<P: Payload>(&self, kind: Kind) -> Result<Subject<P>, Refusal>
@@ -58,51 +56,39 @@ impl Fields {
             Shape::MissingVoters => Ok(Call::MissingVoters(self.proposal()?)),
         }
     }
+}
 
-    // The call that the fields hold.
-    pub(crate) fn to_call<P: Payload>(&self) -> Result<Call<P>, Refusal>
-        ensures { result ≡ read_fields P.named self.now }
-    {
-        let Some(shape) = Shape::named(self.call, self.kind) else {
-            return Err(Refusal::UnknownCall);
-        };
-        if !self.is_clear(shape.used()) {
+// The call that the fields hold.
+impl<P: Payload> TryFrom<Fields> for Call<P> {
+    type Error = Refusal;
+
+    ghost try_from_gives = { λ f r. r ≡ read_fields P.named f };
+
+    fn try_from(fields: Fields) -> Result<Call<P>, Refusal> {
+        let shape = Shape::try_from((fields.call, fields.kind))?;
+        if !fields.is_clear(shape.used()) {
             return Err(Refusal::UnusedByte);
         }
-        self.call_of(shape)
+        fields.call_of(shape)
     }
+}
 
-    // The fields that a call is written as.
-    pub(crate) fn from_call<P: Payload>(call: &Call<P>) -> Fields
-        ensures value { result ≡ fields_of P.words call.now }
-        ensures back { read_fields P.named result ≡ Ok call.now }
-    {
-        let kind = match call.subject() {
-            Some(subject) => subject.kind().number(),
-            None => 0,
-        };
-        let (parent, words) = match call.proposal() {
-            Some(proposal) => (proposal.parent, proposal.payload.to_words()),
-            None => (
-                0,
-                Words {
-                    w1: 0,
-                    w2: 0,
-                    w3: 0,
-                    w4: 0,
-                },
-            ),
-        };
+// The fields that a call is written as, from which it is then read again.
+impl<P: Payload> From<&Call<P>> for Fields {
+    ghost from_gives = { λ c f. (f ≡ fields_of P.words c.now) × (read_fields P.named f ≡ Ok c.now) };
+
+    fn from(call: &Call<P>) -> Fields {
+        let proposal = call.proposal();
         Fields {
             call: call.number(),
-            kind,
+            kind: call.subject().map_or(0, |subject| subject.kind().number()),
             gap: 0,
             key: call.key(),
             participant: call.participant(),
             space: 0,
             round: call.round(),
-            parent,
-            words,
+            parent: proposal.map_or(0, |proposal| proposal.parent),
+            words: proposal.map_or(Words::default(), |proposal| proposal.payload.to_words()),
             signature: call.signature(),
         }
     }

@@ -1,24 +1,12 @@
-ghost use Rattle.std.specs.Prelude.{◌≡◌, ℕ, ◌^◌, ◌<◌, ◌≤◌, List, ◌++◌, length, take};
-ghost use Rattle.calls.specs.Layout.{fields_in, layout};
+ghost use Rattle.std.specs.Prelude.{◌≡◌, ℕ, ◌^◌, ◌<◌, ◌≤◌, List, ◌++◌, length};
+ghost use Rattle.calls.specs.Layout.{number_in, fields_in, layout};
 
-use crate::bytes::{number_at, put_number};
+use crate::records::RECORD;
 use values::payload::Words;
 use values::types::Rnd;
 
-fn words_at(bytes: &[u8]) -> Words
-    requires { 88 ≤ length bytes.now }
-    ensures { result ≡ (fields_in bytes.now).words }
-{
-    Words {
-        w1: number_at(bytes, 48, 8),
-        w2: number_at(bytes, 56, 8),
-        w3: number_at(bytes, 64, 8),
-        w4: number_at(bytes, 72, 8),
-    }
-}
-
 // The fields of a record, in the order of its bytes.
-#[derive(Clone, Copy)]
+#[derive(Clone, Copy, Debug, PartialEq, Eq)]
 pub(crate) struct Fields {
     pub call: u8,
     pub kind: u8,
@@ -34,51 +22,67 @@ pub(crate) struct Fields {
     pub signature: u64,
 }
 
+// The number that at most eight bytes hold, the lowest byte first.
+fn number_in(part: &[u8]) -> u64
+    requires { length part.now ≤ 8 }
+    ensures value { result ≡ number_in part.now }
+    ensures small { result < 256 ^ length part.now }
+{
+    let mut word = [0; 8];
+    word[..part.len()].copy_from_slice(part);
+    u64::from_le_bytes(word)
+}
+
+// Methods, not impls of `From`: `to_bytes` has a `requires`, which a `from` cannot have.
 impl Fields {
-    // The fields that the first 88 bytes hold.
-    pub(crate) fn from_bytes(bytes: &[u8]) -> Fields
-        requires { 88 ≤ length bytes.now }
+    // The fields that a record's bytes hold.
+    pub(crate) fn from_bytes(bytes: &[u8; RECORD]) -> Fields
         ensures value { result ≡ fields_in bytes.now }
-        ensures exact { layout result ≡ take 88 bytes.now }
+        ensures exact { layout result ≡ bytes.now }
     {
         Fields {
-            call: number_at(bytes, 0, 1) as u8,
-            kind: number_at(bytes, 1, 1) as u8,
-            gap: number_at(bytes, 2, 6),
-            key: number_at(bytes, 8, 8),
-            participant: number_at(bytes, 16, 4) as u32,
-            space: number_at(bytes, 20, 4) as u32,
+            call: bytes[0],
+            kind: bytes[1],
+            gap: number_in(&bytes[2..8]),
+            key: number_in(&bytes[8..16]),
+            participant: number_in(&bytes[16..20]) as u32,
+            space: number_in(&bytes[20..24]) as u32,
             round: Rnd {
-                epoch: number_at(bytes, 24, 8),
-                view: number_at(bytes, 32, 8),
+                epoch: number_in(&bytes[24..32]),
+                view: number_in(&bytes[32..40]),
             },
-            parent: number_at(bytes, 40, 8),
-            words: words_at(bytes),
-            signature: number_at(bytes, 80, 8),
+            parent: number_in(&bytes[40..48]),
+            words: Words {
+                w1: number_in(&bytes[48..56]),
+                w2: number_in(&bytes[56..64]),
+                w3: number_in(&bytes[64..72]),
+                w4: number_in(&bytes[72..80]),
+            },
+            signature: number_in(&bytes[80..88]),
         }
     }
 
-    // The 88 bytes that hold the fields.
-    pub(crate) fn to_bytes(self) -> [u8; 88]
+    // The bytes that hold the fields.
+    pub(crate) fn to_bytes(self) -> [u8; RECORD]
         requires { self.gap < 256 ^ 6 }
         ensures value { result ≡ layout self }
         ensures exact { (rest : List ℕ) → fields_in (result ++ rest) ≡ self }
     {
-        let mut bytes = [0; 88];
-        put_number(&mut bytes, 0, 1, self.call as u64);
-        put_number(&mut bytes, 1, 1, self.kind as u64);
-        put_number(&mut bytes, 2, 6, self.gap);
-        put_number(&mut bytes, 8, 8, self.key);
-        put_number(&mut bytes, 16, 4, self.participant as u64);
-        put_number(&mut bytes, 20, 4, self.space as u64);
-        put_number(&mut bytes, 24, 8, self.round.epoch);
-        put_number(&mut bytes, 32, 8, self.round.view);
-        put_number(&mut bytes, 40, 8, self.parent);
-        put_number(&mut bytes, 48, 8, self.words.w1);
-        put_number(&mut bytes, 56, 8, self.words.w2);
-        put_number(&mut bytes, 64, 8, self.words.w3);
-        put_number(&mut bytes, 72, 8, self.words.w4);
-        put_number(&mut bytes, 80, 8, self.signature);
+        let mut bytes = [0; RECORD];
+        bytes[0] = self.call;
+        bytes[1] = self.kind;
+        bytes[2..8].copy_from_slice(&self.gap.to_le_bytes()[..6]);
+        bytes[8..16].copy_from_slice(&self.key.to_le_bytes());
+        bytes[16..20].copy_from_slice(&self.participant.to_le_bytes());
+        bytes[20..24].copy_from_slice(&self.space.to_le_bytes());
+        bytes[24..32].copy_from_slice(&self.round.epoch.to_le_bytes());
+        bytes[32..40].copy_from_slice(&self.round.view.to_le_bytes());
+        bytes[40..48].copy_from_slice(&self.parent.to_le_bytes());
+        bytes[48..56].copy_from_slice(&self.words.w1.to_le_bytes());
+        bytes[56..64].copy_from_slice(&self.words.w2.to_le_bytes());
+        bytes[64..72].copy_from_slice(&self.words.w3.to_le_bytes());
+        bytes[72..80].copy_from_slice(&self.words.w4.to_le_bytes());
+        bytes[80..88].copy_from_slice(&self.signature.to_le_bytes());
         bytes
     }
 }

@@ -15,10 +15,8 @@ pub fn read<P: Payload>(bytes: &[u8]) -> Result<Call<P>, Refusal>
     ensures value { result ≡ read_of P.named bytes.now }
     ensures only { IfOk result (λ c. written_of P.words c ≡ take 88 bytes.now) }
 {
-    if bytes.len() < RECORD {
-        return Err(Refusal::ShortRecord);
-    }
-    Fields::from_bytes(bytes).to_call()
+    let front = bytes.first_chunk::<RECORD>().ok_or(Refusal::ShortRecord)?;
+    Call::try_from(Fields::from_bytes(front))
 }
 
 // Writes a call into the first 88 bytes, from which it is then read again.
@@ -27,11 +25,9 @@ pub fn write<P: Payload>(call: &Call<P>, bytes: &mut [u8]) -> Result<(), Refusal
     ensures after { bytes.new ≡ (if nat_lt (length bytes.old) 88 then bytes.old else written_of P.words call.now ++ drop 88 bytes.old) }
     ensures back { OnOk result (read_of P.named bytes.new ≡ Ok call.now) }
 {
-    if bytes.len() < RECORD {
-        Err(Refusal::ShortRecord)
-    } else {
-        let record = Fields::from_call(call).to_bytes();
-        bytes[0..RECORD].copy_from_slice(&record);
-        Ok(())
-    }
+    let Some(front) = bytes.first_chunk_mut::<RECORD>() else {
+        return Err(Refusal::ShortRecord);
+    };
+    *front = Fields::from(call).to_bytes();
+    Ok(())
 }

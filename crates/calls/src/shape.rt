@@ -1,12 +1,15 @@
 ghost use Rattle.std.specs.Prelude.{◌≡◌};
-ghost use Rattle.calls.specs.Records.{kind_named, shape_named, used_by, blank, zero_words, clear, clear_in_front, clear_behind};
+ghost use Rattle.std.specs.Option.{ok_or};
+ghost use Rattle.values.specs.declared.refusal.Refusal.TheVariants.{UnknownCall};
+ghost use Rattle.calls.specs.Records.{shape_named, used_by, clear, clear_in_front, clear_behind};
 
 use crate::fields::Fields;
 use values::payload::Words;
+use values::refusal::Refusal;
 use values::types::Kind;
 
 // Which call a record holds and of which kind: what its first two bytes say.
-#[derive(Clone, Copy)]
+#[derive(Clone, Copy, Debug, PartialEq, Eq)]
 pub(crate) enum Shape {
     NetworkVote(Kind),
     ConstructedVote(Kind),
@@ -18,7 +21,7 @@ pub(crate) enum Shape {
 }
 
 // Which fields a record uses, besides the call's number. The others are zero.
-#[derive(Clone, Copy)]
+#[derive(Clone, Copy, Debug, PartialEq, Eq)]
 pub(crate) struct Used {
     pub kind: bool,
     pub key: bool,
@@ -29,34 +32,27 @@ pub(crate) struct Used {
     pub signature: bool,
 }
 
-fn kind_named(number: u8) -> Option<Kind>
-    ensures { result ≡ kind_named number }
-{
-    match number {
-        1 => Some(Kind::Notarize),
-        2 => Some(Kind::Nullify),
-        3 => Some(Kind::Finalize),
-        _ => None,
+// The shape that a call's number and a kind's number name.
+impl TryFrom<(u8, u8)> for Shape {
+    type Error = Refusal;
+
+    ghost try_from_gives = { λ n r. r ≡ ok_or (shape_named n.0 n.1) UnknownCall };
+
+    fn try_from((call, kind): (u8, u8)) -> Result<Shape, Refusal> {
+        match call {
+            1 => Ok(Shape::NetworkVote(Kind::try_from(kind)?)),
+            2 => Ok(Shape::ConstructedVote(Kind::try_from(kind)?)),
+            3 => Ok(Shape::Certificate(Kind::try_from(kind)?)),
+            4 => Ok(Shape::Leader),
+            5 => Ok(Shape::Forward),
+            6 => Ok(Shape::Attempt),
+            7 => Ok(Shape::MissingVoters),
+            _ => Err(Refusal::UnknownCall),
+        }
     }
 }
 
 impl Shape {
-    // The shape that a call's number and a kind's number name.
-    pub(crate) fn named(call: u8, kind: u8) -> Option<Shape>
-        ensures { result ≡ shape_named call kind }
-    {
-        match call {
-            1 => Some(Shape::NetworkVote(kind_named(kind)?)),
-            2 => Some(Shape::ConstructedVote(kind_named(kind)?)),
-            3 => Some(Shape::Certificate(kind_named(kind)?)),
-            4 => Some(Shape::Leader),
-            5 => Some(Shape::Forward),
-            6 => Some(Shape::Attempt),
-            7 => Some(Shape::MissingVoters),
-            _ => None,
-        }
-    }
-
     // Whether the shape is of a kind that names a proposal, or asks about one.
     fn names_proposal(self) -> bool
         ensures { result ≡ (used_by self).proposal }
@@ -86,19 +82,6 @@ impl Shape {
     }
 }
 
-// Whether a field is zero, unless it is used.
-fn is_blank(used: bool, number: u64) -> bool
-    ensures { result ≡ blank used number }
-{
-    used || number == 0
-}
-
-fn is_zero(words: &Words) -> bool
-    ensures { result ≡ zero_words words.now }
-{
-    words.w1 == 0 && words.w2 == 0 && words.w3 == 0 && words.w4 == 0
-}
-
 impl Fields {
     // Whether every field that is not used is zero.
     pub(crate) fn is_clear(&self, used: Used) -> bool
@@ -110,20 +93,20 @@ impl Fields {
     fn is_clear_in_front(&self, used: Used) -> bool
         ensures { result ≡ clear_in_front used self.now }
     {
-        is_blank(used.kind, self.kind as u64)
+        (used.kind || self.kind == 0)
             && self.gap == 0
-            && is_blank(used.key, self.key)
-            && is_blank(used.participant, self.participant as u64)
+            && (used.key || self.key == 0)
+            && (used.participant || self.participant == 0)
             && self.space == 0
     }
 
     fn is_clear_behind(&self, used: Used) -> bool
         ensures { result ≡ clear_behind used self.now }
     {
-        is_blank(used.round, self.round.epoch)
-            && is_blank(used.round, self.round.view)
-            && is_blank(used.proposal, self.parent)
-            && (used.proposal || is_zero(&self.words))
-            && is_blank(used.signature, self.signature)
+        (used.round || self.round.epoch == 0)
+            && (used.round || self.round.view == 0)
+            && (used.proposal || self.parent == 0)
+            && (used.proposal || self.words == Words::default())
+            && (used.signature || self.signature == 0)
     }
 }

@@ -18,8 +18,7 @@ pub fn vote_of<P: Payload>(call: Call<P>) -> Option<Vote<P>>
     ensures { result ≡ vote_in call }
 {
     match call {
-        Call::NetworkVote(_, vote) => Some(vote),
-        Call::ConstructedVote(vote) => Some(vote),
+        Call::NetworkVote(_, vote) | Call::ConstructedVote(vote) => Some(vote),
         _ => None,
     }
 }
@@ -32,6 +31,7 @@ pub fn judge<P: Payload, S: Scheme<P>>(
     ensures answer { result ≡ judged (S.meaning scheme.old) (read_of P.named bytes.now) }
     ensures same { S.meaning scheme.new ≡ S.meaning scheme.old }
 {
+    // A match, since the check covers no closure yet that asks a scheme: `map` was tried.
     match vote_of(read::<P>(bytes)?) {
         Some(vote) => Ok(Some(is_good(scheme, vote))),
         None => Ok(None),
@@ -41,14 +41,10 @@ pub fn judge<P: Payload, S: Scheme<P>>(
 fn sign_vote<P: Payload>(directory: &Directory, vote: Vote<P>) -> Option<Vote<P>>
     ensures { result ≡ signed_vote P.words (keys_of directory.now) vote }
 {
-    let Vote {
-        subject,
-        attestation,
-    } = vote;
-    let attestation = sign(directory, subject, attestation.signer)?;
+    let attestation = sign(directory, vote.subject, vote.attestation.signer)?;
     Some(Vote {
-        subject,
         attestation,
+        ..vote
     })
 }
 

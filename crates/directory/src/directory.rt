@@ -3,8 +3,9 @@ ghost use Rattle.std.specs.Prelude.{◌≡◌, ℕ, ◌+◌, ◌<◌, ◌≤◌,
 pub mod methods;
 
 // The participants' keys, strictly ascending: the first `count` places of the table. A
-// participant's number is the place of its key, from 0.
-#[derive(Clone, Copy)]
+// participant's number is the place of its key, from 0. A table of fixed size with a count, and no
+// Vec, is a rule of the project: a directory owns no memory, and is copied.
+#[derive(Clone, Copy, Debug, PartialEq, Eq)]
 pub struct Directory {
     keys: [u64; 64],
     count: u32,

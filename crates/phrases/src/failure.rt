@@ -1,45 +1,29 @@
-use std::alloc::{AllocError, AllocFailed};
+use std::alloc::AllocError;
 use std::io;
+use thiserror::Error;
 
 // Why the program could not do what was asked.
-#[derive(Drop)]
+#[derive(Debug, Drop, Error)]
 pub enum Failure {
     // what to tell the user, on one line
+    #[error("{0}")]
     Message(String),
     // what the user was told on standard output already
+    #[error("told already")]
     Told,
     // there was no memory
-    Memory,
+    #[error("out of memory")]
+    Memory(#[from(alloc)] AllocError),
     // standard output could not be written
-    Output(io::Error),
+    #[error("cannot write the output: {0}")]
+    Output(#[from] io::Error),
 }
 
 impl Failure {
     // Tells the user on standard error, unless that is done.
     pub fn tell(&self, rt: &HostRuntime) {
-        let _ = match self {
-            Failure::Message(text) => eprintln!(rt; "votelog: {text}"),
-            Failure::Told => Ok(()),
-            Failure::Memory => eprintln!(rt; "votelog: out of memory"),
-            Failure::Output(error) => eprintln!(rt; "votelog: cannot write the output: {error}"),
-        };
-    }
-}
-
-impl From<AllocError> for Failure {
-    fn from(_error: AllocError) -> Failure {
-        Failure::Memory
-    }
-}
-
-impl<T: Drop> From<AllocFailed<T>> for Failure {
-    fn from(_error: AllocFailed<T>) -> Failure {
-        Failure::Memory
-    }
-}
-
-impl From<io::Error> for Failure {
-    fn from(error: io::Error) -> Failure {
-        Failure::Output(error)
+        if !matches!(self, Failure::Told) {
+            let _ = eprintln!(rt; "votelog: {self}");
+        }
     }
 }

@@ -7,6 +7,6 @@ pub mod failure;
 pub mod lines;
 pub mod payloads;
 pub mod reading;
-mod reasons;
 pub mod showing;
+mod words;
 pub mod writing;

@@ -1,51 +1,46 @@
 use crate::reading::Tokens;
-use std::alloc::{AllocError, Global};
+use std::fmt;
 use values::payload::{BlockName, Digest, Payload};
 
 // A payload kind in words.
 pub trait Spoken: Payload {
-    fn in_words(&self, heap: Global) -> Result<String, AllocError>;
+    fn fmt_words<W: fmt::Write>(&self, f: &mut fmt::Formatter<W>) -> fmt::Result;
 
     fn from_tokens(tokens: &mut Tokens<'_>) -> Option<Self>;
 }
 
 impl Spoken for Digest {
-    fn in_words(&self, heap: Global) -> Result<String, AllocError> {
+    fn fmt_words<W: fmt::Write>(&self, f: &mut fmt::Formatter<W>) -> fmt::Result {
         let Digest { w1, w2, w3, w4 } = *self;
-        format!(in heap; "digest {w1} {w2} {w3} {w4}")
+        write!(f, "digest {w1} {w2} {w3} {w4}")
     }
 
     fn from_tokens(tokens: &mut Tokens<'_>) -> Option<Digest> {
         tokens.word("digest")?;
-        let w1 = tokens.u64()?;
-        let w2 = tokens.u64()?;
-        let w3 = tokens.u64()?;
-        let w4 = tokens.u64()?;
-        Some(Digest { w1, w2, w3, w4 })
+        Some(Digest {
+            w1: tokens.number()?,
+            w2: tokens.number()?,
+            w3: tokens.number()?,
+            w4: tokens.number()?,
+        })
     }
 }
 
 impl Spoken for BlockName {
-    fn in_words(&self, heap: Global) -> Result<String, AllocError> {
+    fn fmt_words<W: fmt::Write>(&self, f: &mut fmt::Formatter<W>) -> fmt::Result {
         let BlockName {
             sledge,
             second,
             ordinal,
         } = *self;
-        format!(in heap; "sledge {sledge} second {second} ordinal {ordinal}")
+        write!(f, "sledge {sledge} second {second} ordinal {ordinal}")
     }
 
     fn from_tokens(tokens: &mut Tokens<'_>) -> Option<BlockName> {
-        tokens.word("sledge")?;
-        let sledge = u16::try_from(tokens.u64()?).ok()?;
-        tokens.word("second")?;
-        let second = tokens.u64()?;
-        tokens.word("ordinal")?;
-        let ordinal = tokens.u32()?;
         Some(BlockName {
-            sledge,
-            second,
-            ordinal,
+            sledge: tokens.after("sledge")?,
+            second: tokens.after("second")?,
+            ordinal: tokens.after("ordinal")?,
         })
     }
 }

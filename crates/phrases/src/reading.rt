@@ -1,79 +1,68 @@
-use std::alloc::{AllocError, Global};
+use std::str::{FromStr, SplitWhitespace};
 
 // The words of a line, one after the other.
 #[derive(Drop)]
 pub struct Tokens<'a> {
-    words: Vec<&'a str>,
-    at: usize,
-    good: bool,
+    words: SplitWhitespace<'a>,
+}
+
+impl<'a> From<&'a str> for Tokens<'a> {
+    fn from(line: &'a str) -> Tokens<'a> {
+        Tokens {
+            words: line.split_whitespace(),
+        }
+    }
 }
 
 impl<'a> Tokens<'a> {
-    pub fn new(heap: Global, line: &'a str) -> Result<Tokens<'a>, AllocError> {
-        Ok(Tokens {
-            words: line.split_whitespace().collect(heap)?,
-            at: 0,
-            good: false,
-        })
-    }
-
     pub(crate) fn next(&mut self) -> Option<&'a str> {
-        let word = self.words.get(self.at).copied()?;
-        self.at = self.at.saturating_add(1);
-        Some(word)
+        self.words.next()
     }
 
     // The next word, where it is this one.
     pub(crate) fn word(&mut self, expected: &str) -> Option<()> {
-        if self.next()? == expected {
-            Some(())
-        } else {
-            None
-        }
+        (self.next()? == expected).then_some(())
     }
 
     // The next word as a number, which has digits alone.
-    pub(crate) fn u64(&mut self) -> Option<u64> {
+    pub(crate) fn number<T: FromStr>(&mut self) -> Option<T>
+    where
+        T::Err: Drop,
+    {
         number_of(self.next()?)
     }
 
-    pub(crate) fn u32(&mut self) -> Option<u32> {
-        u32::try_from(self.u64()?).ok()
+    // The number after this word.
+    pub(crate) fn after<T: FromStr>(&mut self, name: &str) -> Option<T>
+    where
+        T::Err: Drop,
+    {
+        self.word(name)?;
+        self.number()
     }
 
-    // The next word as a signature. The word good stands for one that is still to be found.
-    pub(crate) fn signature(&mut self) -> Option<u64> {
-        let word = self.next()?;
-        if word == "good" {
-            self.good = true;
-            return Some(0);
-        }
-        number_of(word)
-    }
-
-    // Whether the word good stood for a signature.
-    pub(crate) fn says_good(&self) -> bool {
-        self.good
-    }
-
-    pub(crate) fn at_end(&self) -> bool {
-        self.at >= self.words.len()
+    // Whether there is no word more. What is there is taken.
+    pub(crate) fn at_end(&mut self) -> bool {
+        self.next().is_none()
     }
 }
 
-fn number_of(word: &str) -> Option<u64> {
+// A word as a number, which has digits alone.
+pub(crate) fn number_of<T: FromStr>(word: &str) -> Option<T>
+where
+    T::Err: Drop,
+{
     if begins_with_digit(word) {
-        word.parse::<u64>().ok()
+        word.parse::<T>().ok()
     } else {
         None
     }
 }
 
 pub(crate) fn begins_with_digit(text: &str) -> bool {
-    match text.as_bytes().first() {
-        Some(byte) => byte.is_ascii_digit(),
-        None => false,
-    }
+    text.as_bytes()
+        .first()
+        .is_some_and(|byte| byte.is_ascii_digit())
 }
 
 // A mask of participants: hexadecimal digits, after 0x or alone.

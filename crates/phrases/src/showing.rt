@@ -1,18 +1,17 @@
 use crate::failure::Failure;
-use crate::lines::call_words;
 use crate::payloads::Spoken;
-use crate::reasons::reason;
+use crate::words::InWords;
 use calls::call::Call;
 use calls::records::{RECORD, read};
 use directory::directory::Directory;
-use std::alloc::Global;
-use std::io;
+use std::fmt;
 use std::io::Write;
 use values::refusal::Refusal;
 
 // How many records of each sort a file has.
-#[derive(Clone, Copy)]
+#[derive(Clone, Copy, Default)]
 struct Totals {
+    records: usize,
     network_votes: u64,
     constructed_votes: u64,
     certificates: u64,
@@ -24,17 +23,6 @@ struct Totals {
 }
 
 impl Totals {
-    const NONE: Totals = Totals {
-        network_votes: 0,
-        constructed_votes: 0,
-        certificates: 0,
-        leaders: 0,
-        forwards: 0,
-        attempts: 0,
-        missing_voters: 0,
-        refused: 0,
-    };
-
     fn count<P: Spoken>(&mut self, answer: &Result<Call<P>, Refusal>) {
         let one = match answer {
             Ok(Call::NetworkVote(_, _)) => &mut self.network_votes,
@@ -48,9 +36,12 @@ impl Totals {
         };
         *one = one.saturating_add(1);
     }
+}
 
-    fn tell<W: Write>(&self, out: &mut W, records: usize) -> io::Result<()> {
+impl fmt::Display for Totals {
+    fn fmt<W: fmt::Write>(&self, f: &mut fmt::Formatter<W>) -> fmt::Result {
         let Totals {
+            records,
             network_votes,
             constructed_votes,
             certificates,
@@ -60,66 +51,42 @@ impl Totals {
             missing_voters,
             refused,
         } = *self;
-        writeln!(out, "records {records}, refused {refused}")?;
+        writeln!(f, "records {records}, refused {refused}")?;
         writeln!(
-            out,
+            f,
             "network votes {network_votes}, constructed votes {constructed_votes}, certificates {certificates}"
         )?;
-        writeln!(
-            out,
+        write!(
+            f,
             "leaders {leaders}, forwards {forwards}, attempts {attempts}, missing voters {missing_voters}"
         )
     }
 }
 
-fn tell_record<P: Spoken, W: Write>(
-    heap: Global,
-    out: &mut W,
-    i: usize,
-    answer: &Result<Call<P>, Refusal>,
-) -> Result<(), Failure> {
-    match answer {
-        Ok(call) => {
-            let words = call_words(heap, call)?;
-            writeln!(out, "{i} {words}")?;
-        }
-        Err(refusal) => {
-            let number = refusal.number();
-            let why = reason(*refusal);
-            writeln!(out, "{i} refused {number}: {why}")?;
-        }
-    }
-    Ok(())
-}
-
-fn tell_records<P: Spoken, W: Write>(
-    heap: Global,
-    out: &mut W,
-    bytes: &[u8],
-) -> Result<(), Failure> {
-    let mut totals = Totals::NONE;
-    let mut records = 0usize;
-    for (i, record) in bytes.chunks(RECORD).enumerate() {
-        let answer = read::<P>(record);
-        tell_record(heap, out, i, &answer)?;
+fn tell_records<P: Spoken, W: Write>(out: &mut W, bytes: &[u8]) -> Result<(), Failure> {
+    let records = bytes.chunks(RECORD);
+    let mut totals = Totals {
+        records: records.len(),
+        ..Totals::default()
+    };
+    for (i, bytes) in records.enumerate() {
+        let answer = read::<P>(bytes);
         totals.count(&answer);
-        records = records.saturating_add(1);
+        match &answer {
+            Ok(call) => writeln!(out, "{i} {}", InWords(call))?,
+            Err(refusal) => writeln!(out, "{i} {}", InWords(refusal))?,
+        }
     }
-    totals.tell(out, records)?;
+    writeln!(out, "{totals}")?;
     Ok(())
 }
 
 // The directory of these keys. Says why, where they make none.
 pub fn directory_of<W: Write>(out: &mut W, keys: &[u64]) -> Result<Directory, Failure> {
-    match Directory::new(keys) {
-        Ok(directory) => Ok(directory),
-        Err(refusal) => {
-            let number = refusal.number();
-            let why = reason(refusal);
-            writeln!(out, "directory refused {number}: {why}")?;
-            Err(Failure::Told)
-        }
-    }
+    Directory::new(keys).try_map_err(|refusal| -> Result<Failure, Failure> {
+        writeln!(out, "directory {}", InWords(&refusal))?;
+        Ok(Failure::Told)
+    })
 }
 
 fn tell_directory<W: Write>(out: &mut W, keys: &[u64]) -> Result<(), Failure> {
@@ -136,7 +103,6 @@ fn tell_directory<W: Write>(out: &mut W, keys: &[u64]) -> Result<(), Failure> {
 
 // Tells the records in words, under the directory if there are keys.
 pub fn tell_all<P: Spoken, W: Write>(
-    heap: Global,
     out: &mut W,
     keys: &Option<Vec<u64>>,
     bytes: &[u8],
@@ -144,5 +110,5 @@ pub fn tell_all<P: Spoken, W: Write>(
     if let Some(keys) = keys {
         tell_directory(out, keys.as_slice())?;
     }
-    tell_records::<P, W>(heap, out, bytes)
+    tell_records::<P, W>(out, bytes)
 }

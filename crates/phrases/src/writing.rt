@@ -1,28 +1,29 @@
 use crate::failure::Failure;
-use crate::lines::line_call;
+use crate::lines::{Line, line_from};
 use crate::payloads::Spoken;
 use crate::reading::{Tokens, begins_with_digit};
 use calls::call::Call;
-use calls::records::RECORD;
+use calls::records::{RECORD, write};
 use checks::votes::sign_call;
 use directory::directory::Directory;
 use std::alloc::Global;
+use thiserror::Error;
 
 // Why a line has no record.
-#[derive(Clone, Copy)]
+#[derive(Clone, Copy, Debug, Error)]
 enum Fault {
+    #[error("is no call")]
     NoCall,
+    #[error("says good, which takes --keys")]
     NoKeys,
+    #[error("says good for a signer that is no participant")]
     NoParticipant,
 }
 
 impl Fault {
-    fn words(self) -> &'static str {
-        match self {
-            Fault::NoCall => "is no call",
-            Fault::NoKeys => "says good, which takes --keys",
-            Fault::NoParticipant => "says good for a signer that is no participant",
-        }
+    // What to tell the user of a line of a file.
+    fn at(self, heap: Global, path: &str, number: usize, line: &str) -> Result<Failure, Failure> {
+        Ok(Failure::Message(format!(in heap; "{path:?} line {number} {self}: {line:?}")?))
     }
 }
 
@@ -30,29 +31,19 @@ fn call_of<P: Spoken>(
     tokens: &mut Tokens<'_>,
     stations: &Option<Directory>,
 ) -> Result<Call<P>, Fault> {
-    let Some(call) = line_call::<P>(tokens) else {
-        return Err(Fault::NoCall);
-    };
-    if !tokens.says_good() {
-        return Ok(call);
-    }
-    let Some(directory) = stations else {
-        return Err(Fault::NoKeys);
-    };
-    match sign_call(directory, call) {
-        Some(call) => Ok(call),
-        None => Err(Fault::NoParticipant),
+    match line_from::<P>(tokens).ok_or(Fault::NoCall)? {
+        Line::Whole(call) => Ok(call),
+        Line::Good(call) => {
+            let directory = stations.as_ref().ok_or(Fault::NoKeys)?;
+            sign_call(directory, call).ok_or(Fault::NoParticipant)
+        }
     }
 }
 
-fn add_record<P: Spoken>(heap: Global, bytes: &mut Vec<u8>, call: &Call<P>) -> Result<(), Failure> {
-    let mut record = [0; RECORD];
-    if let Err(refusal) = calls::records::write(call, &mut record) {
-        let number = refusal.number();
-        return Err(Failure::Message(format!(in heap; "a record is refused {number}")?));
-    }
-    bytes.extend_from_slice(&record)?;
-    Ok(())
+fn record_of<P: Spoken>(call: &Call<P>) -> [u8; RECORD] {
+    let mut bytes = [0; RECORD];
+    write(call, &mut bytes).unwrap();
+    bytes
 }
 
 // The records of the lines that begin with a number. Another line is passed over. Where a line
@@ -64,21 +55,16 @@ pub fn records_of<P: Spoken>(
     stations: &Option<Directory>,
 ) -> Result<Vec<u8>, Failure> {
     let mut bytes = Vec::new(heap);
-    for (i, line) in text.lines().enumerate() {
-        if !begins_with_digit(line.trim_start()) {
-            continue;
-        }
-        let mut tokens = Tokens::new(heap, line)?;
-        match call_of::<P>(&mut tokens, stations) {
-            Ok(call) => add_record(heap, &mut bytes, &call)?,
-            Err(fault) => {
-                let number = i.saturating_add(1);
-                let why = fault.words();
-                return Err(Failure::Message(format!(in heap;
-                    "{path:?} line {number} {why}: {line:?}"
-                )?));
-            }
-        }
+    let lines = text.lines().enumerate();
+    for (i, line) in lines.filter(|(_, line)| begins_with_digit(line.trim_start())) {
+        let mut tokens = Tokens::from(line);
+        let call = call_of::<P>(&mut tokens, stations).try_map_err(|fault| fault.at(
+            heap,
+            path,
+            i.saturating_add(1),
+            line,
+        ))?;
+        bytes.extend_from_slice(&record_of(&call))?;
     }
     Ok(bytes)
 }

@@ -1,17 +1,18 @@
 -- What a layer makes of the meaning below it. Assumes nothing.
-use Rattle.std.specs.Prelude.{ℕ, ◌/◌, ◌%◌, ◌^◌, Bool, false, cond, not, ◌&&◌, ◌||◌, List, [], ◌∷◌, None, ◌==◌}
+use Rattle.std.specs.Prelude.{ℕ, Bool, cond, not, ◌&&◌, List, None, ◌==◌}
+use Rattle.std.specs.Int.{bit_at}
+use Rattle.std.specs.List.{list_any}
 use Rattle.scheme.specs.Meaning.{Meaning}
 use Rattle.scheme.specs.declared.withdrawn.Withdrawn.{Withdrawn}
 use Rattle.values.specs.declared.types.Attestation.{Attestation}
 
 -- participant i is in the mask
 abbrev pub bit : ℕ → ℕ → Bool
-bit mask i = mask / 2 ^ i % 2 == 1
+bit mask i = bit_at mask i == 1
 
 -- a signer of one of these is in the mask
 abbrev pub any_masked : ℕ → List Attestation → Bool
-any_masked mask [] = false
-any_masked mask (a ∷ l) = bit mask a.signer || any_masked mask l
+any_masked mask l = list_any (λ a. bit mask a.signer) l
 
 -- the participants in the mask are withdrawn: nothing that they sign is good, and no list with one of them is
 -- assembled

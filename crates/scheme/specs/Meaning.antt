@@ -1,5 +1,6 @@
 -- What a scheme means, and what its meaning owes. Assumes nothing.
-use Rattle.std.specs.Prelude.{◌≡◌, ℕ, Bool, true, false, not, ◌&&◌, ◌||◌, List, [], ◌∷◌, length, IsSomeAnd, IfSome, None, Option, ◌==◌, nat_le, nat_lt}
+use Rattle.std.specs.Prelude.{◌≡◌, ℕ, Bool, true, false, not, ◌&&◌, List, [], ◌∷◌, length, IsSomeAnd, IfSome, None, Option, ◌==◌, nat_le, nat_lt}
+use Rattle.std.specs.List.{list_all, list_any}
 use Rattle.directory.specs.Directories.{quorum}
 use Rattle.values.specs.declared.types.Attestation.{Attestation}
 
@@ -15,8 +16,7 @@ pub record Meaning (B C : Type 0) : Type 0 where
 
 -- participant s signed one of these
 abbrev pub signed_by : ℕ → List Attestation → Bool
-signed_by s [] = false
-signed_by s (a ∷ l) = a.signer == s || signed_by s l
+signed_by s l = list_any (λ a. a.signer == s) l
 
 -- different signers, each one of n participants
 abbrev pub different : ℕ → List Attestation → Bool
@@ -29,8 +29,7 @@ quorate n l = nat_le (quorum n) (length l) && different n l
 
 -- p holds of all of these
 abbrev pub every : (Attestation → Bool) → List Attestation → Bool
-every p [] = true
-every p (a ∷ l) = p a && every p l
+every p l = list_all p l
 
 -- a list without a quorum gets nothing; one of good attestations gets a valid certificate; and what is assembled
 -- optimistically is valid

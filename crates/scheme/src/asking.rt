@@ -8,7 +8,7 @@ use values::payload::Payload;
 use values::types::{Attestation, Subject, Vote};
 
 // What both ways of assembling answer.
-#[derive(Clone, Copy)]
+#[derive(Clone, Copy, Debug, PartialEq, Eq, Drop)]
 pub struct Answers<C> {
     pub optimistic: Option<C>,
     pub assembled: Option<C>,

@@ -4,4 +4,5 @@
 pub mod asking;
 mod mask;
 pub mod scheme;
+pub mod verdicts;
 pub mod withdrawn;

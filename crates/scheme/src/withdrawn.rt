@@ -10,12 +10,14 @@ use values::payload::Payload;
 use values::types::{Attestation, Subject};
 
 // A layer over any scheme, itself a scheme: the participants in its mask are withdrawn.
-#[derive(Drop)]
+#[derive(Clone, Copy, Debug, PartialEq, Eq, Drop)]
 pub struct Withdrawn<S> {
     pub below: S,
     pub mask: u64,
 }
 
+// Three methods write the trait's clauses again, since the check cannot give them these yet. The
+// two ways of assembling are one test and one call each: a function of both would be no shorter.
 impl<P: Payload, S: Scheme<P>> Scheme<P> for Withdrawn<S> {
     type Certificate = S::Certificate;
 

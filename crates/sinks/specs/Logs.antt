@@ -1,8 +1,8 @@
 -- What a log holds, and what it writes. Assumes nothing.
 use Rattle.std.specs.Prelude.{ℕ, ◌+◌, ◌-◌, ◌*◌, ◌/◌, cond, List, ◌++◌, length, take, drop, nat_le}
-use Rattle.std.specs.Simd.Lanes.{digits_l}
 use Rattle.sinks.specs.declared.log.Log.{Log}
 use Rattle.sinks.specs.declared.pair.Pair.{Pair}
+use Rattle.sinks.specs.Pairs.{pair_bytes}
 use Rattle.sinks.specs.Sinks.{Account}
 
 -- a log has room for a pair in each 16 bytes
@@ -13,10 +13,6 @@ log_account l =
       latest = l.written.latest;
       capacity = length l.bytes.now / 16 - l.written.count;
     }
-
--- a pair's 16 bytes: two numbers, the lowest byte first
-abbrev pub pair_bytes : Pair → List ℕ
-pair_bytes p = digits_l 256 8 p.first ++ digits_l 256 8 p.second
 
 -- bytes with a pair written behind so many others, or as they were without room for it
 abbrev pub logged_bytes : Pair → ℕ → List ℕ → List ℕ

@@ -6,7 +6,7 @@ use crate::pair::Pair;
 pub mod methods;
 
 // A sink that counts the pairs, up to 2^64 - 1, and keeps the latest one.
-#[derive(Drop)]
+#[derive(Debug, PartialEq, Eq, Drop)]
 pub struct Counter {
     count: u64,
     latest: Pair,

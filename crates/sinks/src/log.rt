@@ -8,8 +8,9 @@ use crate::sink::Sink;
 
 // A sink that writes the pairs, one behind the other, into bytes that it is lent. A pair takes 16
 // bytes: its two numbers, the lowest byte first. The clauses named `lender` say that the log stays
-// with the same bytes, so that their owner knows what they hold when the log ends.
-#[derive(Drop)]
+// with the same bytes, so that their owner knows what they hold when the log ends. Bytes with a count
+// beside them, and no Vec, are a rule of the project: a sink owns no memory.
+#[derive(Debug, Drop)]
 pub struct Log<'a> {
     bytes: &'a mut [u8],
     written: Counter,
@@ -72,8 +73,7 @@ impl Sink for Log<'_> {
         let count = self.written.count() as usize;
         if count < self.bytes.len() / 16 {
             let at = 16 * count;
-            self.bytes[at..at + 8].copy_from_slice(&pair.first.to_le_bytes());
-            self.bytes[at + 8..at + 16].copy_from_slice(&pair.second.to_le_bytes());
+            self.bytes[at..at + 16].copy_from_slice(&pair.to_bytes());
             self.written.tell(pair);
         }
     }

@@ -11,7 +11,7 @@ use values::refusal::Refusal;
 
 // What a call made of a vote: why it was refused; whether it was taken, that is, counted as its
 // signer's; the sender's key; and why that sender is to be blocked.
-#[derive(Clone, Copy)]
+#[derive(Clone, Copy, Debug, PartialEq, Eq)]
 pub struct Ruling {
     pub refusal: Option<Refusal>,
     pub taken: bool,
@@ -24,20 +24,14 @@ impl Ruling {
     pub fn refusal_number(&self) -> u8
         ensures { result ≡ unwrap_or (option_map refusal_number self.now.refusal) 0 }
     {
-        match self.refusal {
-            Some(refusal) => refusal.number(),
-            None => 0,
-        }
+        self.refusal.map_or(0, |refusal| refusal.number())
     }
 
     // The cause's number, or 0.
     pub fn cause_number(&self) -> u8
         ensures { result ≡ unwrap_or (option_map cause_number self.now.cause) 0 }
     {
-        match self.cause {
-            Some(cause) => cause.number(),
-            None => 0,
-        }
+        self.cause.map_or(0, |cause| cause.number())
     }
 }
 
@@ -77,7 +71,7 @@ impl<B: Sink> Settle<B> for Slip {
         if let Some(cause) = ruling.cause {
             sink.tell(Pair {
                 first: ruling.key,
-                second: cause.number() as u64,
+                second: u64::from(cause.number()),
             });
         }
         ruling

@@ -1,6 +1,7 @@
 -- A subject's number, the tag that a key gives it, and which attestations carry their signer's tag. Assumes nothing.
 use Rattle.std.specs.Prelude.{ℕ, ◌+◌, ◌*◌, ◌%◌, Bool, cond, ◌&&◌, List, length, Some, None, Option, ◌==◌, nat_lt, slice_index}
 use Rattle.values.specs.Kinds.{kind_number}
+use Rattle.values.specs.Payloads.{no_words}
 use Rattle.values.specs.declared.payload.Words.{Words}
 use Rattle.values.specs.declared.types.Attestation.{Attestation}
 use Rattle.values.specs.declared.types.Kind.{Kind}
@@ -11,9 +12,6 @@ use Rattle.values.specs.declared.types.Subject.TheVariants.{Notarize, Nullify, F
 
 abbrev pub prime : ℕ
 prime = 2147483647
-
-abbrev pub no_words : Words
-no_words = record { w1 = 0; w2 = 0; w3 = 0; w4 = 0 }
 
 -- the number of a subject by its parts
 abbrev pub mixed : Kind → Rnd → ℕ → Words → ℕ

@@ -11,9 +11,8 @@ use values::types::{Attestation, Subject};
 pub fn is_tagged(directory: &Directory, number: u64, attestation: Attestation) -> bool
     ensures { result ≡ tagged (keys_of directory.now) number attestation }
 {
-    let keys = directory.keys();
-    let signer = attestation.signer as usize;
-    signer < keys.len() && attestation.signature == tag(keys[signer], number)
+    let key = directory.keys().get(attestation.signer as usize);
+    key.is_some_and(|key| attestation.signature == tag(*key, number))
 }
 
 // A participant's good attestation of a subject.
@@ -25,10 +24,7 @@ pub fn sign<P: Payload>(
     ensures value { result ≡ signed_of (keys_of directory.now) (number_of P.words subject) signer }
     ensures good { IfSome result (λ a. tagged (keys_of directory.now) (number_of P.words subject) a ≡ true) }
 {
-    let keys = directory.keys();
-    if signer as usize >= keys.len() {
-        return None;
-    }
-    let signature = tag(keys[signer as usize], number(subject));
+    let key = directory.keys().get(signer as usize)?;
+    let signature = tag(*key, number(subject));
     Some(Attestation { signer, signature })
 }

@@ -1,21 +1,14 @@
+use crate::answers::{four, refused};
 use directory::directory::Directory;
 use std::process::Abort;
 use std::test::Fail;
-
-// The refusal's number, or 0.
-fn refused(keys: &[u64]) -> u8 {
-    match Directory::new(keys) {
-        Ok(_) => 0,
-        Err(refusal) => refusal.number(),
-    }
-}
 
 // Keys that ascend from `first` by `step`.
 fn ladder(first: u64, step: u64) -> [u64; 65] {
     let mut keys = [0; 65];
     let mut key = first;
-    for i in 0..65 {
-        keys[i] = key;
+    for place in keys.iter_mut() {
+        *place = key;
         key = key.wrapping_add(step);
     }
     keys
@@ -25,28 +18,28 @@ fn ladder(first: u64, step: u64) -> [u64; 65] {
 fn sizes_come_before_order(rt: HostRuntime) {
     let up = ladder(7, 3);
     let down = ladder(u64::MAX, u64::MAX);
-    assert_eq!(rt; refused(&[]), 1);
-    assert_eq!(rt; refused(&up[0..1]), 0);
-    assert_eq!(rt; refused(&up[0..64]), 0);
-    assert_eq!(rt; refused(&up), 1);
-    assert_eq!(rt; refused(&down[0..1]), 0);
-    assert_eq!(rt; refused(&down[0..64]), 2);
-    assert_eq!(rt; refused(&down), 1);
+    assert_eq!(rt; refused(Directory::new(&[])), 1);
+    assert_eq!(rt; refused(Directory::new(&up[0..1])), 0);
+    assert_eq!(rt; refused(Directory::new(&up[0..64])), 0);
+    assert_eq!(rt; refused(Directory::new(&up)), 1);
+    assert_eq!(rt; refused(Directory::new(&down[0..1])), 0);
+    assert_eq!(rt; refused(Directory::new(&down[0..64])), 2);
+    assert_eq!(rt; refused(Directory::new(&down)), 1);
 }
 
 #[test]
 fn keys_ascend_strictly(rt: HostRuntime) {
-    assert_eq!(rt; refused(&[0, u64::MAX]), 0);
-    assert_eq!(rt; refused(&[5, 5]), 2);
-    assert_eq!(rt; refused(&[6, 5]), 2);
-    assert_eq!(rt; refused(&[1, 2, 3, 3]), 2);
-    assert_eq!(rt; refused(&[1, 3, 2, 4]), 2);
+    assert_eq!(rt; refused(Directory::new(&[0, u64::MAX])), 0);
+    assert_eq!(rt; refused(Directory::new(&[5, 5])), 2);
+    assert_eq!(rt; refused(Directory::new(&[6, 5])), 2);
+    assert_eq!(rt; refused(Directory::new(&[1, 2, 3, 3])), 2);
+    assert_eq!(rt; refused(Directory::new(&[1, 3, 2, 4])), 2);
     let mut keys = ladder(1, 1);
     keys[63] = 63;
-    assert_eq!(rt; refused(&keys[0..64]), 2);
+    assert_eq!(rt; refused(Directory::new(&keys[0..64])), 2);
 }
 
-fn check_places(rt: &impl Abort, directory: &Directory) -> Result<(), Fail> {
+fn check_places(rt: &impl Abort, directory: &Directory) {
     assert_eq!(rt; directory.size(), 4);
     assert_eq!(rt; directory.faults(), 1);
     assert_eq!(rt; directory.quorum(), 3);
@@ -57,31 +50,24 @@ fn check_places(rt: &impl Abort, directory: &Directory) -> Result<(), Fail> {
     assert_eq!(rt; directory.keys().first().copied(), Some(11));
     assert_eq!(rt; directory.keys().last().copied(), Some(44));
     assert_eq!(rt; directory.keys().len(), 4);
-    Ok(())
 }
 
 #[test]
 fn participants_have_places(rt: HostRuntime) -> Result<(), Fail> {
-    match Directory::new(&[11, 22, 33, 44]) {
-        Ok(directory) => check_places(&rt, &directory),
-        Err(_) => Err(Fail::new("four keys are refused")),
-    }
+    check_places(&rt, &four()?);
+    Ok(())
 }
 
 // Two quorums share more participants than may be faulty.
 fn check_quorum(rt: &impl Abort, keys: &[u64]) -> Result<(), Fail> {
-    match Directory::new(keys) {
-        Ok(directory) => {
-            let n = u64::from(directory.size());
-            let f = u64::from(directory.faults());
-            let quorum = u64::from(directory.quorum());
-            assert_eq!(rt; n as usize, keys.len());
-            assert_eq!(rt; quorum + f, n);
-            assert!(rt; 2 * quorum > n + f);
-            Ok(())
-        }
-        Err(_) => Err(Fail::new("ascending keys are refused")),
-    }
+    let directory = Directory::new(keys).map_err(|_| Fail::new("ascending keys are refused"))?;
+    let n = u64::from(directory.size());
+    let f = u64::from(directory.faults());
+    let quorum = u64::from(directory.quorum());
+    assert_eq!(rt; n as usize, keys.len());
+    assert_eq!(rt; quorum + f, n);
+    assert!(rt; 2 * quorum > n + f);
+    Ok(())
 }
 
 #[test]

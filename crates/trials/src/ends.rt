@@ -4,10 +4,14 @@ use sinks::pair::Pair;
 use sinks::sink::Sink;
 use sinks::slip::{Ruling, Settle, Slip};
 use std::process::Abort;
-use std::test::Fail;
 use values::cause::Cause;
 use values::refusal::Refusal;
 use values::types::Kind;
+
+const NONE: Pair = Pair {
+    first: 0,
+    second: 0,
+};
 
 const STAIRS: Pair = Pair {
     first: 0x0807_0605_0403_0201,
@@ -19,40 +23,35 @@ const LARGEST: Pair = Pair {
     second: 0,
 };
 
-fn check_pair(rt: &impl Abort, pair: Pair, first: u64, second: u64) -> Result<(), Fail> {
-    assert_eq!(rt; pair.first, first);
-    assert_eq!(rt; pair.second, second);
-    Ok(())
-}
-
 #[test]
-fn counters_count(rt: HostRuntime) -> Result<(), Fail> {
+fn counters_count(rt: HostRuntime) {
     let mut counter = Counter::new();
     assert_eq!(rt; counter.count(), 0);
     assert_eq!(rt; counter.capacity(), u64::MAX);
-    check_pair(&rt, counter.latest(), 0, 0)?;
+    assert_eq!(rt; counter.latest(), NONE);
     counter.tell(STAIRS);
     counter.tell(LARGEST);
     assert_eq!(rt; counter.count(), 2);
     assert_eq!(rt; counter.capacity(), u64::MAX - 2);
-    check_pair(&rt, counter.latest(), u64::MAX, 0)
+    assert_eq!(rt; counter.latest(), LARGEST);
 }
 
 // Tells two pairs to a log over these bytes.
-fn log_two(rt: &impl Abort, bytes: &mut [u8], room: u64) -> Result<(), Fail> {
+fn log_two(rt: &impl Abort, bytes: &mut [u8], room: u64) {
     let mut log = Log::new(bytes);
     assert_eq!(rt; log.count(), 0);
     assert_eq!(rt; log.capacity(), room);
-    check_pair(rt, log.latest(), 0, 0)?;
+    assert_eq!(rt; log.latest(), NONE);
     log.tell(STAIRS);
     log.tell(LARGEST);
     assert_eq!(rt; log.count(), room);
     assert_eq!(rt; log.capacity(), 0);
-    match room {
-        0 => check_pair(rt, log.latest(), 0, 0),
-        1 => check_pair(rt, log.latest(), STAIRS.first, u64::MAX),
-        _ => check_pair(rt, log.latest(), u64::MAX, 0),
-    }
+    let latest = match room {
+        0 => NONE,
+        1 => STAIRS,
+        _ => LARGEST,
+    };
+    assert_eq!(rt; log.latest(), latest);
 }
 
 // The bytes of a log of two pairs with room for so many.
@@ -70,15 +69,13 @@ fn logged(room: u64) -> [u8; 33] {
 }
 
 #[test]
-fn logs_fill(rt: HostRuntime) -> Result<(), Fail> {
-    let table = [(0usize, 0), (15, 0), (16, 1), (17, 1), (31, 1), (32, 2)];
-    for (length, room) in table.iter() {
+fn logs_fill(rt: HostRuntime) {
+    for (length, room) in [(0usize, 0), (15, 0), (16, 1), (17, 1), (31, 1), (32, 2)] {
         let mut bytes = [0xee; 33];
-        assert!(rt; *length <= 33);
-        log_two(&rt, &mut bytes[0..*length], *room)?;
-        assert!(rt; bytes == logged(*room));
+        assert!(rt; length <= 33);
+        log_two(&rt, &mut bytes[0..length], room);
+        assert!(rt; bytes == logged(room));
     }
-    Ok(())
 }
 
 #[test]
@@ -92,19 +89,13 @@ fn logs_show_their_bytes(rt: HostRuntime) {
 }
 
 #[test]
-fn sinks_may_be_absent(rt: HostRuntime) -> Result<(), Fail> {
+fn sinks_may_be_absent(rt: HostRuntime) {
     let mut absent: Option<Counter> = None;
     absent.tell(STAIRS);
     assert!(rt; absent.is_none());
     let mut present = Some(Counter::new());
     present.tell(STAIRS);
-    match present {
-        Some(counter) => {
-            assert_eq!(rt; counter.count(), 1);
-            Ok(())
-        },
-        None => Err(Fail::new("the counter is gone")),
-    }
+    assert_eq!(rt; present.map(|counter| counter.count()), Some(1));
 }
 
 const BLAMED: Ruling = Ruling {
@@ -130,7 +121,7 @@ fn rulings_have_numbers(rt: HostRuntime) {
 }
 
 #[test]
-fn settling_tells_the_cause(rt: HostRuntime) -> Result<(), Fail> {
+fn settling_tells_the_cause(rt: HostRuntime) {
     let mut counter = Counter::new();
     let refused = Slip::new(REFUSED).settle(&mut counter);
     assert_eq!(rt; counter.count(), 0);
@@ -139,10 +130,15 @@ fn settling_tells_the_cause(rt: HostRuntime) -> Result<(), Fail> {
     assert_eq!(rt; refused.refusal_number(), 4);
     let blamed = Slip::new(BLAMED).settle(&mut counter);
     assert_eq!(rt; counter.count(), 1);
-    check_pair(&rt, counter.latest(), u64::MAX, 10)?;
+    assert_eq!(rt;
+        counter.latest(),
+        Pair {
+            first: u64::MAX,
+            second: 10
+        }
+    );
     assert!(rt; !blamed.taken);
     assert_eq!(rt; blamed.cause_number(), 10);
-    Ok(())
 }
 
 #[test]

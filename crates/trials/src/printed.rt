@@ -1,3 +1,4 @@
+use crate::answers;
 use directory::directory::Directory;
 use phrases::checking::{Layers, SchemeKind, check as check_votes};
 use phrases::reading::mask_of;
@@ -30,17 +31,13 @@ const SHOWN: &str = "participants 4, f 1, quorum 3\n\
     leaders 1, forwards 0, attempts 1, missing voters 0\n";
 
 fn stations() -> Result<Option<Directory>, Fail> {
-    match Directory::new(&[11, 22, 33, 44]) {
-        Ok(directory) => Ok(Some(directory)),
-        Err(_) => Err(Fail::new("four keys are refused")),
-    }
+    Ok(Some(answers::four()?))
 }
 
 fn records(heap: Global) -> Result<Vec<u8>, Fail> {
-    match records_of::<Digest>(heap, "lines", LINES, &stations()?) {
-        Ok(bytes) => Ok(bytes),
-        Err(_) => Err(Fail::new("the lines are refused")),
-    }
+    records_of::<Digest>(heap, "lines", LINES, &stations()?).map_err(|_| Fail::new(
+        "the lines are refused",
+    ))
 }
 
 fn four(heap: Global) -> Result<Vec<u64>, Fail> {
@@ -54,7 +51,7 @@ fn good_signatures_are_filled_in(rt: HostRuntime) -> Result<(), Fail> {
     let heap = rt.alloc();
     let bytes = records(heap)?;
     let mut out: Vec<u8> = Vec::new(heap);
-    let told = tell_all::<Digest, Vec<u8>>(heap, &mut out, &Some(four(heap)?), bytes.as_slice());
+    let told = tell_all::<Digest, Vec<u8>>(&mut out, &Some(four(heap)?), bytes.as_slice());
     assert!(rt; told.is_ok());
     assert!(rt; out.as_slice() == SHOWN.as_bytes());
     Ok(())

@@ -1,31 +1,13 @@
-use crate::samples::{Sample, samples};
+use crate::answers::refused;
+use crate::samples::{SAMPLES, Sample};
 use calls::call::{Call, same_call};
 use calls::records::{read, write};
 use std::process::Abort;
 use std::test::Fail;
 use values::payload::{BlockName, Digest, Payload};
 
-// The refusal's number, or 0.
-fn refused<P: Payload>(bytes: &[u8]) -> u8 {
-    match read::<P>(bytes) {
-        Ok(_) => 0,
-        Err(refusal) => refusal.number(),
-    }
-}
-
-// The refusal's number, or 0.
-fn write_refused(call: &Call<Digest>, bytes: &mut [u8]) -> u8 {
-    match write(call, bytes) {
-        Ok(()) => 0,
-        Err(refusal) => refusal.number(),
-    }
-}
-
 fn reads_as(bytes: &[u8], call: &Call<Digest>) -> bool {
-    match read::<Digest>(bytes) {
-        Ok(other) => same_call(call, &other),
-        Err(_) => false,
-    }
+    read::<Digest>(bytes).is_ok_and(|other| same_call(call, &other))
 }
 
 fn record_of(call: &Call<Digest>) -> [u8; 89] {
@@ -36,37 +18,35 @@ fn record_of(call: &Call<Digest>) -> [u8; 89] {
 
 fn check_lengths(rt: &impl Abort, sample: &Sample) {
     let bytes = record_of(&sample.call);
-    assert_eq!(rt; refused::<Digest>(&bytes[0..0]), 10);
-    assert_eq!(rt; refused::<Digest>(&bytes[0..87]), 10);
+    assert_eq!(rt; refused(read::<Digest>(&bytes[0..0])), 10);
+    assert_eq!(rt; refused(read::<Digest>(&bytes[0..87])), 10);
     assert!(rt; reads_as(&bytes[0..88], &sample.call));
     assert!(rt; reads_as(&bytes, &sample.call));
 }
 
 #[test]
 fn records_have_88_bytes(rt: HostRuntime) {
-    for sample in samples().iter() {
+    for sample in SAMPLES.iter() {
         check_lengths(&rt, sample);
     }
 }
 
 fn check_writes(rt: &impl Abort, sample: &Sample) {
     let mut short = [0xee; 87];
-    assert_eq!(rt; write_refused(&sample.call, &mut short), 10);
-    for byte in short.iter() {
-        assert_eq!(rt; *byte, 0xee);
-    }
+    assert_eq!(rt; refused(write(&sample.call, &mut short)), 10);
+    assert_eq!(rt; short, [0xee; 87]);
     let mut long = [0xee; 89];
-    assert_eq!(rt; write_refused(&sample.call, &mut long), 0);
+    assert_eq!(rt; refused(write(&sample.call, &mut long)), 0);
     assert_eq!(rt; long[88], 0xee);
     let mut exact = [0xee; 88];
-    assert_eq!(rt; write_refused(&sample.call, &mut exact), 0);
+    assert_eq!(rt; refused(write(&sample.call, &mut exact)), 0);
     assert!(rt; reads_as(&exact, &sample.call));
-    assert_eq!(rt; write_refused(&sample.call, &mut []), 10);
+    assert_eq!(rt; refused(write(&sample.call, &mut [])), 10);
 }
 
 #[test]
 fn writes_leave_the_rest(rt: HostRuntime) {
-    for sample in samples().iter() {
+    for sample in SAMPLES.iter() {
         check_writes(&rt, sample);
     }
 }
@@ -84,27 +64,28 @@ fn expected(sample: &Sample, at: usize) -> u8 {
 
 fn check_bytes(rt: &impl Abort, sample: &Sample) {
     let record = record_of(&sample.call);
+    // By places, not over a slice: each turn changes one byte of a fresh record.
     for at in 0..88usize {
         let mut other = record;
         other[at] ^= 0x80;
-        assert_eq!(rt; refused::<Digest>(&other), expected(sample, at));
+        assert_eq!(rt; refused(read::<Digest>(&other)), expected(sample, at));
         assert!(rt; !reads_as(&other, &sample.call));
     }
 }
 
 #[test]
 fn every_byte_counts(rt: HostRuntime) {
-    for sample in samples().iter() {
+    for sample in SAMPLES.iter() {
         check_bytes(&rt, sample);
     }
 }
 
-// The sample's record with every byte that it uses at its largest, but for the first two.
+// The sample's record with every byte at its largest that it uses past the first two.
 fn largest(sample: &Sample) -> [u8; 89] {
     let mut bytes = record_of(&sample.call);
-    for at in 2..88usize {
+    for (at, byte) in bytes.iter_mut().enumerate() {
         if sample.uses(at) {
-            bytes[at] = 0xff;
+            *byte = 0xff;
         }
     }
     bytes
@@ -112,18 +93,14 @@ fn largest(sample: &Sample) -> [u8; 89] {
 
 fn check_largest(rt: &impl Abort, sample: &Sample) -> Result<(), Fail> {
     let bytes = largest(sample);
-    match read::<Digest>(&bytes) {
-        Ok(call) => {
-            assert!(rt; record_of(&call) == bytes);
-            Ok(())
-        },
-        Err(_) => Err(Fail::new("the largest numbers are refused")),
-    }
+    let call = read::<Digest>(&bytes).map_err(|_| Fail::new("the largest numbers are refused"))?;
+    assert!(rt; record_of(&call) == bytes);
+    Ok(())
 }
 
 #[test]
 fn largest_numbers_are_read(rt: HostRuntime) -> Result<(), Fail> {
-    for sample in samples().iter() {
+    for sample in SAMPLES.iter() {
         check_largest(&rt, sample)?;
     }
     Ok(())
@@ -131,19 +108,19 @@ fn largest_numbers_are_read(rt: HostRuntime) -> Result<(), Fail> {
 
 #[test]
 fn numbers_not_listed(rt: HostRuntime) {
-    for call in 0..256usize {
+    for call in 0..=u8::MAX {
         let mut bytes = [0; 88];
-        bytes[0] = (call & 0xff) as u8;
+        bytes[0] = call;
         // calls 1 to 3 lack a kind; 4 to 7 need none, and zeros are values of all that they use
-        let answer = if call >= 4 && call <= 7 { 0 } else { 11 };
-        assert_eq!(rt; refused::<Digest>(&bytes), answer);
+        let answer = if matches!(call, 4..=7) { 0 } else { 11 };
+        assert_eq!(rt; refused(read::<Digest>(&bytes)), answer);
     }
-    for kind in 0..256usize {
+    for kind in 0..=u8::MAX {
         let mut bytes = [0; 88];
         bytes[0] = 3;
-        bytes[1] = (kind & 0xff) as u8;
-        let answer = if kind >= 1 && kind <= 3 { 0 } else { 11 };
-        assert_eq!(rt; refused::<Digest>(&bytes), answer);
+        bytes[1] = kind;
+        let answer = if matches!(kind, 1..=3) { 0 } else { 11 };
+        assert_eq!(rt; refused(read::<Digest>(&bytes)), answer);
     }
 }
 
@@ -160,17 +137,26 @@ fn question(w1: u64, w2: u64, w3: u64, w4: u64) -> [u8; 88] {
 
 #[test]
 fn block_names_have_limits(rt: HostRuntime) {
-    assert_eq!(rt; refused::<BlockName>(&question(0, 0, 0, 0)), 0);
+    assert_eq!(rt; refused(read::<BlockName>(&question(0, 0, 0, 0))), 0);
     assert_eq!(rt;
-        refused::<BlockName>(&question(0xffff, u64::MAX, 0xffff_ffff, 0)),
+        refused(read::<BlockName>(&question(0xffff, u64::MAX, 0xffff_ffff, 0))),
         0
     );
-    assert_eq!(rt; refused::<BlockName>(&question(0x1_0000, 0, 0, 0)), 13);
-    assert_eq!(rt; refused::<BlockName>(&question(0, 0, 0x1_0000_0000, 0)), 13);
-    assert_eq!(rt; refused::<BlockName>(&question(0, 0, 0, 1)), 13);
-    assert_eq!(rt; refused::<BlockName>(&question(0, 0, 0, u64::MAX)), 13);
     assert_eq!(rt;
-        refused::<Digest>(&question(u64::MAX, u64::MAX, u64::MAX, u64::MAX)),
+        refused(read::<BlockName>(&question(0x1_0000, 0, 0, 0))),
+        13
+    );
+    assert_eq!(rt;
+        refused(read::<BlockName>(&question(0, 0, 0x1_0000_0000, 0))),
+        13
+    );
+    assert_eq!(rt; refused(read::<BlockName>(&question(0, 0, 0, 1))), 13);
+    assert_eq!(rt;
+        refused(read::<BlockName>(&question(0, 0, 0, u64::MAX))),
+        13
+    );
+    assert_eq!(rt;
+        refused(read::<Digest>(&question(u64::MAX, u64::MAX, u64::MAX, u64::MAX))),
         0
     );
 }
@@ -178,25 +164,21 @@ fn block_names_have_limits(rt: HostRuntime) {
 #[test]
 fn block_names_are_written_back(rt: HostRuntime) -> Result<(), Fail> {
     let bytes = question(0xffff, u64::MAX, 0xffff_ffff, 0);
-    match read::<BlockName>(&bytes) {
-        Ok(call) => {
-            let mut again = [0xee; 88];
-            assert!(rt; write(&call, &mut again).is_ok());
-            assert!(rt; again == bytes);
-            Ok(())
-        }
-        Err(_) => Err(Fail::new("a block name is refused")),
-    }
+    let call = read::<BlockName>(&bytes).map_err(|_| Fail::new("a block name is refused"))?;
+    let mut again = [0xee; 88];
+    assert!(rt; write(&call, &mut again).is_ok());
+    assert!(rt; again == bytes);
+    Ok(())
 }
 
 #[test]
 fn refusals_come_in_order(rt: HostRuntime) {
     // words that are no block name, then an unused byte too, then no such call too
     let mut bytes = question(0x1_0000, 0, 0, 0);
-    assert_eq!(rt; refused::<BlockName>(&bytes), 13);
+    assert_eq!(rt; refused(read::<BlockName>(&bytes)), 13);
     bytes[87] = 1;
-    assert_eq!(rt; refused::<BlockName>(&bytes), 12);
+    assert_eq!(rt; refused(read::<BlockName>(&bytes)), 12);
     bytes[0] = 8;
-    assert_eq!(rt; refused::<BlockName>(&bytes), 11);
-    assert_eq!(rt; refused::<BlockName>(&bytes[0..87]), 10);
+    assert_eq!(rt; refused(read::<BlockName>(&bytes)), 11);
+    assert_eq!(rt; refused(read::<BlockName>(&bytes[0..87])), 10);
 }

@@ -7,25 +7,12 @@ use values::types::{Attestation, Proposal, Rnd, Subject, Vote};
 pub struct Sample {
     pub call: Call<Digest>,
     pub has_kind: bool,
-    pub used: [(usize, usize); 4],
+    pub used: &'static [(usize, usize)],
 }
 
 impl Sample {
-    fn new(call: Call<Digest>, has_kind: bool, used: [(usize, usize); 4]) -> Sample {
-        Sample {
-            call,
-            has_kind,
-            used,
-        }
-    }
-
     pub(crate) fn uses(&self, at: usize) -> bool {
-        for (from, to) in self.used.iter() {
-            if *from <= at && at < *to {
-                return true;
-            }
-        }
-        false
+        self.used.iter().any(|(from, to)| *from <= at && at < *to)
     }
 }
 
@@ -62,63 +49,71 @@ const FINALIZE: Vote<Digest> = Vote {
     attestation: SIGNED,
 };
 
-const NONE: (usize, usize) = (0, 0);
-
 // One call of each shape.
-pub(crate) fn samples() -> [Sample; 13] {
-    [
-        Sample::new(
-            Call::NetworkVote(11, NOTARIZE),
-            true,
-            [(8, 20), (24, 80), (80, 88), NONE],
-        ),
-        Sample::new(
-            Call::NetworkVote(11, NULLIFY),
-            true,
-            [(8, 20), (24, 40), (80, 88), NONE],
-        ),
-        Sample::new(
-            Call::NetworkVote(11, FINALIZE),
-            true,
-            [(8, 20), (24, 80), (80, 88), NONE],
-        ),
-        Sample::new(
-            Call::ConstructedVote(NOTARIZE),
-            true,
-            [(16, 20), (24, 80), (80, 88), NONE],
-        ),
-        Sample::new(
-            Call::ConstructedVote(NULLIFY),
-            true,
-            [(16, 20), (24, 40), (80, 88), NONE],
-        ),
-        Sample::new(
-            Call::ConstructedVote(FINALIZE),
-            true,
-            [(16, 20), (24, 80), (80, 88), NONE],
-        ),
-        Sample::new(
-            Call::Certificate(Subject::Notarize(PROPOSAL)),
-            true,
-            [(24, 80), NONE, NONE, NONE],
-        ),
-        Sample::new(
-            Call::Certificate(Subject::Nullify(ROUND)),
-            true,
-            [(24, 40), NONE, NONE, NONE],
-        ),
-        Sample::new(
-            Call::Certificate(Subject::Finalize(PROPOSAL)),
-            true,
-            [(24, 80), NONE, NONE, NONE],
-        ),
-        Sample::new(Call::Leader(2), false, [(16, 20), NONE, NONE, NONE]),
-        Sample::new(Call::Forward(1), false, [(16, 20), NONE, NONE, NONE]),
-        Sample::new(Call::Attempt, false, [NONE, NONE, NONE, NONE]),
-        Sample::new(
-            Call::MissingVoters(PROPOSAL),
-            false,
-            [(24, 80), NONE, NONE, NONE],
-        ),
-    ]
-}
+pub(crate) const SAMPLES: [Sample; 13] = [
+    Sample {
+        call: Call::NetworkVote(11, NOTARIZE),
+        has_kind: true,
+        used: &[(8, 20), (24, 80), (80, 88)],
+    },
+    Sample {
+        call: Call::NetworkVote(11, NULLIFY),
+        has_kind: true,
+        used: &[(8, 20), (24, 40), (80, 88)],
+    },
+    Sample {
+        call: Call::NetworkVote(11, FINALIZE),
+        has_kind: true,
+        used: &[(8, 20), (24, 80), (80, 88)],
+    },
+    Sample {
+        call: Call::ConstructedVote(NOTARIZE),
+        has_kind: true,
+        used: &[(16, 20), (24, 80), (80, 88)],
+    },
+    Sample {
+        call: Call::ConstructedVote(NULLIFY),
+        has_kind: true,
+        used: &[(16, 20), (24, 40), (80, 88)],
+    },
+    Sample {
+        call: Call::ConstructedVote(FINALIZE),
+        has_kind: true,
+        used: &[(16, 20), (24, 80), (80, 88)],
+    },
+    Sample {
+        call: Call::Certificate(Subject::Notarize(PROPOSAL)),
+        has_kind: true,
+        used: &[(24, 80)],
+    },
+    Sample {
+        call: Call::Certificate(Subject::Nullify(ROUND)),
+        has_kind: true,
+        used: &[(24, 40)],
+    },
+    Sample {
+        call: Call::Certificate(Subject::Finalize(PROPOSAL)),
+        has_kind: true,
+        used: &[(24, 80)],
+    },
+    Sample {
+        call: Call::Leader(2),
+        has_kind: false,
+        used: &[(16, 20)],
+    },
+    Sample {
+        call: Call::Forward(1),
+        has_kind: false,
+        used: &[(16, 20)],
+    },
+    Sample {
+        call: Call::Attempt,
+        has_kind: false,
+        used: &[],
+    },
+    Sample {
+        call: Call::MissingVoters(PROPOSAL),
+        has_kind: false,
+        used: &[(24, 80)],
+    },
+];

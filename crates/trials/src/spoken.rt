@@ -2,7 +2,7 @@ use calls::call::{Call, same_call};
 use phrases::lines::{call_words, line_call};
 use phrases::payloads::Spoken;
 use phrases::reading::Tokens;
-use std::alloc::{AllocError, Global};
+use std::alloc::Global;
 use std::process::Abort;
 use std::test::Fail;
 use values::payload::{BlockName, Digest};
@@ -40,13 +40,11 @@ fn check_words<P: Spoken>(
     assert!(rt; call_words(heap, &call)?.as_str() == words);
     let mut line = String::from_str(heap, "12 ")?;
     line.push_str(words)?;
-    match line_call::<P>(&mut Tokens::new(heap, line.as_str())?) {
-        Some(other) => {
-            assert!(rt; same_call(&call, &other));
-            Ok(())
-        },
-        None => Err(Fail::new("the words are no call")),
-    }
+    let Some(other) = line_call::<P>(&mut Tokens::from(line.as_str())) else {
+        return Err(Fail::new("the words are no call"));
+    };
+    assert!(rt; same_call(&call, &other));
+    Ok(())
 }
 
 #[test]
@@ -137,15 +135,13 @@ fn other_calls_in_words(rt: HostRuntime) -> Result<(), Fail> {
     )
 }
 
-fn is_call(heap: Global, line: &str) -> Result<bool, AllocError> {
-    let mut tokens = Tokens::new(heap, line)?;
-    Ok(line_call::<BlockName>(&mut tokens).is_some())
+fn is_call(line: &str) -> bool {
+    line_call::<BlockName>(&mut Tokens::from(line)).is_some()
 }
 
 #[test]
-fn lines_that_are_no_calls(rt: HostRuntime) -> Result<(), Fail> {
-    let heap = rt.alloc();
-    assert!(rt; is_call(heap, " 0  leader\t1 ")?);
+fn lines_that_are_no_calls(rt: HostRuntime) {
+    assert!(rt; is_call(" 0  leader\t1 "));
     for line in [
         "",
         "0",
@@ -164,7 +160,6 @@ fn lines_that_are_no_calls(rt: HostRuntime) -> Result<(), Fail> {
         "0 certificate nullification epoch 18446744073709551616 view 7",
         "0 refused 12: a byte that the call does not use is not zero",
     ] {
-        assert!(rt; !is_call(heap, line)?);
+        assert!(rt; !is_call(line));
     }
-    Ok(())
 }

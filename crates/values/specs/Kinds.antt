@@ -1,5 +1,5 @@
 -- The kinds of votes: their numbers, and what a subject is about. Assumes nothing.
-use Rattle.std.specs.Prelude.{ℕ, Some, None, Option}
+use Rattle.std.specs.Prelude.{ℕ, cond, ◌==◌, Some, None, Option}
 use Rattle.values.specs.declared.types.Kind.{Kind}
 use Rattle.values.specs.declared.types.Kind.TheVariants as kind
 use Rattle.values.specs.declared.types.Rnd.{Rnd}
@@ -11,6 +11,13 @@ abbrev pub kind_number : Kind → ℕ
 kind_number kind.Notarize = 1
 kind_number kind.Nullify = 2
 kind_number kind.Finalize = 3
+
+-- the kind that a number names
+abbrev pub kind_named : ℕ → Option Kind
+kind_named n =
+    cond (n == kind_number kind.Notarize) (Some kind.Notarize)
+    (cond (n == kind_number kind.Nullify) (Some kind.Nullify)
+    (cond (n == kind_number kind.Finalize) (Some kind.Finalize) None))
 
 abbrev pub kind_of : {P : Type 0} → Subject P → Kind
 kind_of (Notarize p) = kind.Notarize

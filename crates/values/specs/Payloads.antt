@@ -4,6 +4,10 @@ use Rattle.values.specs.declared.payload.Words.{Words}
 use Rattle.values.specs.declared.payload.Digest.{Digest}
 use Rattle.values.specs.declared.payload.BlockName.{BlockName}
 
+-- the words of no payload in particular, where there is none to name
+abbrev pub no_words : Words
+no_words = record { w1 = 0; w2 = 0; w3 = 0; w4 = 0 }
+
 abbrev pub digest_words : Digest → Words
 digest_words d = record { w1 = d.w1; w2 = d.w2; w3 = d.w3; w4 = d.w4 }
 

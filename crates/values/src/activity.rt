@@ -2,18 +2,18 @@ ghost use Rattle.std.specs.Prelude.{◌≡◌};
 ghost use Rattle.values.specs.Numbered.{activity_number};
 
 // What a reporter is told of a signer.
-#[derive(Clone, Copy)]
+#[derive(Clone, Copy, Debug, PartialEq, Eq)]
 pub enum Activity {
     // a vote was taken
-    Notarize,
-    Nullify,
-    Finalize,
+    Notarize = 1,
+    Nullify = 4,
+    Finalize = 6,
     // two notarizes of one signer name different proposals
-    ConflictingNotarize,
+    ConflictingNotarize = 8,
     // two finalizes of one signer name different proposals
-    ConflictingFinalize,
+    ConflictingFinalize = 9,
     // one signer voted both nullify and finalize
-    NullifyFinalize,
+    NullifyFinalize = 10,
 }
 
 impl Activity {
@@ -21,13 +21,6 @@ impl Activity {
     pub fn number(self) -> u8
         ensures { result ≡ activity_number self }
     {
-        match self {
-            Activity::Notarize => 1,
-            Activity::Nullify => 4,
-            Activity::Finalize => 6,
-            Activity::ConflictingNotarize => 8,
-            Activity::ConflictingFinalize => 9,
-            Activity::NullifyFinalize => 10,
-        }
+        self as u8
     }
 }

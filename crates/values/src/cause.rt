@@ -4,7 +4,7 @@ ghost use Rattle.values.specs.Numbered.{cause_number};
 use crate::types::Kind;
 
 // Why a station is to be blocked.
-#[derive(Clone, Copy)]
+#[derive(Clone, Copy, Debug, PartialEq, Eq)]
 pub enum Cause {
     // its key is not in the directory
     UnknownParticipant,
@@ -19,7 +19,7 @@ pub enum Cause {
 }
 
 impl Cause {
-    // The number that users see.
+    // The number that users see: a table, as a variant with a value takes no number of its own.
     pub fn number(self) -> u8
         ensures { result ≡ cause_number self }
     {

@@ -4,7 +4,7 @@ ghost use Rattle.values.specs.Payloads.{digest_words, digest_of, block_words, bl
 ghost use Rattle.std.proofs.Common.{rules};
 
 // The four numbers by which a payload is named in records and subject numbers.
-#[derive(Clone, Copy)]
+#[derive(Clone, Copy, Debug, Default, PartialEq, Eq)]
 pub struct Words {
     pub w1: u64,
     pub w2: u64,
@@ -36,8 +36,9 @@ pub trait Payload: Copy {
     ghost sound: { (w : Words) (p : Self) → named w ≡ Some p → words p ≡ w };
 }
 
-// A block of traces by the digest of its bytes.
-#[derive(Clone, Copy)]
+// A block of traces by the digest of its bytes. Not a wrapper of `Words`: a digest is one kind of
+// payload, words name any, and a caller would write `digest.words.w1` for `digest.w1`.
+#[derive(Clone, Copy, Debug, PartialEq, Eq)]
 pub struct Digest {
     pub w1: u64,
     pub w2: u64,
@@ -55,27 +56,19 @@ impl Payload for Digest {
     ghost sound = { Prim.search rules };
 
     fn to_words(&self) -> Words {
-        Words {
-            w1: self.w1,
-            w2: self.w2,
-            w3: self.w3,
-            w4: self.w4,
-        }
+        let Digest { w1, w2, w3, w4 } = *self;
+        Words { w1, w2, w3, w4 }
     }
 
     fn from_words(from: Words) -> Option<Digest> {
-        Some(Digest {
-            w1: from.w1,
-            w2: from.w2,
-            w3: from.w3,
-            w4: from.w4,
-        })
+        let Words { w1, w2, w3, w4 } = from;
+        Some(Digest { w1, w2, w3, w4 })
     }
 }
 
 // A block of traces by the sledge that drove it, the GPS second at which it begins, and its
 // number within that second.
-#[derive(Clone, Copy)]
+#[derive(Clone, Copy, Debug, PartialEq, Eq)]
 pub struct BlockName {
     pub sledge: u16,
     pub second: u64,
@@ -93,22 +86,20 @@ impl Payload for BlockName {
 
     fn to_words(&self) -> Words {
         Words {
-            w1: self.sledge as u64,
+            w1: u64::from(self.sledge),
             w2: self.second,
-            w3: self.ordinal as u64,
+            w3: u64::from(self.ordinal),
             w4: 0,
         }
     }
 
     fn from_words(from: Words) -> Option<BlockName> {
-        if from.w1 <= 0xffff && from.w3 <= 0xffff_ffff && from.w4 == 0 {
-            Some(BlockName {
-                sledge: from.w1 as u16,
-                second: from.w2,
-                ordinal: from.w3 as u32,
-            })
-        } else {
-            None
-        }
+        let sledge = u16::try_from(from.w1).ok()?;
+        let ordinal = u32::try_from(from.w3).ok()?;
+        (from.w4 == 0).then_some(BlockName {
+            sledge,
+            second: from.w2,
+            ordinal,
+        })
     }
 }

@@ -2,34 +2,34 @@ ghost use Rattle.std.specs.Prelude.{◌≡◌};
 ghost use Rattle.values.specs.Numbered.{refusal_number};
 
 // Why a call was refused. A refused call changes nothing.
-#[derive(Clone, Copy)]
+#[derive(Clone, Copy, Debug, PartialEq, Eq)]
 pub enum Refusal {
     // a directory of no keys, or of more than 64
-    DirectorySize,
+    DirectorySize = 1,
     // a directory whose keys do not ascend
-    DirectoryOrder,
+    DirectoryOrder = 2,
     // a scheme, sheet, scratch or list that is not of the directory's size
-    WrongSize,
+    WrongSize = 3,
     // a vote or certificate of another epoch or view
-    OtherRound,
+    OtherRound = 4,
     // a constructed vote whose signer is no participant
-    UnknownSigner,
+    UnknownSigner = 5,
     // a constructed notarize or finalize whose signer's vote of that kind is kept already
-    AlreadyVoted,
+    AlreadyVoted = 6,
     // a constructed vote that conflicts with what a released sheet knows of its signer
-    ReleasedConflict,
+    ReleasedConflict = 7,
     // a leader other than the one named before
-    OtherLeader,
+    OtherLeader = 8,
     // a quorum of verified votes of which the scheme assembles nothing
-    NotAssembled,
+    NotAssembled = 9,
     // fewer bytes than a record has
-    ShortRecord,
+    ShortRecord = 10,
     // a call or kind that no record has
-    UnknownCall,
+    UnknownCall = 11,
     // a byte that is not zero where its call uses none
-    UnusedByte,
+    UnusedByte = 12,
     // words that are no value of the payload kind
-    NotPayload,
+    NotPayload = 13,
 }
 
 impl Refusal {
@@ -37,20 +37,6 @@ impl Refusal {
     pub fn number(self) -> u8
         ensures { result ≡ refusal_number self }
     {
-        match self {
-            Refusal::DirectorySize => 1,
-            Refusal::DirectoryOrder => 2,
-            Refusal::WrongSize => 3,
-            Refusal::OtherRound => 4,
-            Refusal::UnknownSigner => 5,
-            Refusal::AlreadyVoted => 6,
-            Refusal::ReleasedConflict => 7,
-            Refusal::OtherLeader => 8,
-            Refusal::NotAssembled => 9,
-            Refusal::ShortRecord => 10,
-            Refusal::UnknownCall => 11,
-            Refusal::UnusedByte => 12,
-            Refusal::NotPayload => 13,
-        }
+        self as u8
     }
 }

@@ -2,11 +2,14 @@
 // signatures of votes.
 #![tactic(auto)]
 
+mod choices;
 mod commands;
 mod files;
+mod messages;
 mod options;
 
-use options::{Command, PayloadKind};
+use choices::PayloadKind;
+use options::Command;
 use phrases::failure::Failure;
 use std::process::ExitCode;
 use values::payload::{BlockName, Digest};
@@ -29,12 +32,9 @@ fn run(rt: &HostRuntime) -> Result<(), Failure> {
     match options::asked(rt)? {
         Command::Help => Ok(rt.println(HELP)?),
         Command::Version => Ok(rt.println("votelog 0.1.0")?),
-        Command::Show(asked, PayloadKind::Digest) => commands::show::<Digest>(rt, &asked),
-        Command::Show(asked, PayloadKind::Block) => commands::show::<BlockName>(rt, &asked),
-        Command::Write(asked, PayloadKind::Digest) => commands::write::<Digest>(rt, &asked),
-        Command::Write(asked, PayloadKind::Block) => commands::write::<BlockName>(rt, &asked),
-        Command::Check(asked, PayloadKind::Digest) => commands::check::<Digest>(rt, &asked),
-        Command::Check(asked, PayloadKind::Block) => commands::check::<BlockName>(rt, &asked),
+        // each kind of payload is another type, which a match alone can choose
+        Command::Files(asked, PayloadKind::Digest) => commands::run::<Digest>(rt, &asked),
+        Command::Files(asked, PayloadKind::Block) => commands::run::<BlockName>(rt, &asked),
     }
 }
 

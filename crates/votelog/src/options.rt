@@ -1,23 +1,18 @@
+use crate::choices::{Mask, PayloadKind, Value};
+use crate::messages::message;
 use phrases::checking::{Layers, SchemeKind};
 use phrases::failure::Failure;
-use phrases::reading::mask_of;
 use std::alloc::Global;
-use std::env;
-
-#[derive(Clone, Copy)]
-pub enum PayloadKind {
-    Digest,
-    Block,
-}
+use std::{env, fmt};
 
 #[derive(Drop)]
-pub struct ShowFiles {
+pub(crate) struct ShowFiles {
     pub calls: String,
     pub keys: Option<String>,
 }
 
 #[derive(Drop)]
-pub struct WriteFiles {
+pub(crate) struct WriteFiles {
     pub lines: String,
     pub calls: String,
     pub keys: Option<String>,
@@ -25,30 +20,78 @@ pub struct WriteFiles {
 
 // The files of a check, and the scheme that judges the signatures.
 #[derive(Drop)]
-pub struct CheckFiles {
+pub(crate) struct CheckFiles {
     pub calls: String,
     pub keys: String,
     pub scheme: SchemeKind,
     pub layers: Layers,
 }
 
+#[derive(Drop)]
+pub(crate) enum FileCommand {
+    Show(ShowFiles),
+    Write(WriteFiles),
+    Check(CheckFiles),
+}
+
 // What the user asks for.
 #[derive(Drop)]
-pub enum Command {
+pub(crate) enum Command {
     Help,
     Version,
-    Show(ShowFiles, PayloadKind),
-    Write(WriteFiles, PayloadKind),
-    Check(CheckFiles, PayloadKind),
+    Files(FileCommand, PayloadKind),
 }
 
 // An option that takes the next word as its value.
-#[derive(Clone, Copy)]
+#[derive(Clone, Copy, Debug, PartialEq, Eq)]
 enum Awaited {
     Keys,
     Payload,
     Scheme,
     Withdrawn,
+}
+
+impl Awaited {
+    const ALL: [Awaited; 4] = [
+        Awaited::Keys,
+        Awaited::Payload,
+        Awaited::Scheme,
+        Awaited::Withdrawn,
+    ];
+
+    fn name(self) -> &'static str {
+        match self {
+            Awaited::Keys => "--keys",
+            Awaited::Payload => "--payload",
+            Awaited::Scheme => "--scheme",
+            Awaited::Withdrawn => "--withdrawn",
+        }
+    }
+
+    // The option of this name.
+    fn named(word: &str) -> Option<Awaited> {
+        Awaited::ALL
+            .into_iter()
+            .find(|option| option.name() == word)
+    }
+
+    fn needs_value(self, heap: Global) -> Failure {
+        message(heap, format_args!("{self} needs a value"))
+    }
+
+    // What a word says as the option's value.
+    fn value_of<T: Value>(self, heap: Global, word: &str) -> Result<T, Failure> {
+        T::from_word(word).ok_or_else(|| {
+            let takes = T::TAKES;
+            message(heap, format_args!("{self} takes {takes}, not {word:?}"))
+        })
+    }
+}
+
+impl fmt::Display for Awaited {
+    fn fmt<W: fmt::Write>(&self, f: &mut fmt::Formatter<W>) -> fmt::Result {
+        f.write_str(self.name())
+    }
 }
 
 // The words after the command's name: files in their order, and options.
@@ -63,50 +106,12 @@ struct Arguments {
     help: bool,
 }
 
-fn payload_kind(heap: Global, word: &str) -> Result<PayloadKind, Failure> {
-    match word {
-        "digest" => Ok(PayloadKind::Digest),
-        "block" => Ok(PayloadKind::Block),
-        _ => Err(Failure::Message(format!(in heap;
-            "--payload takes digest or block, not {word:?}"
-        )?)),
-    }
-}
-
-fn scheme_kind(heap: Global, word: &str) -> Result<SchemeKind, Failure> {
-    match word {
-        "listed" => Ok(SchemeKind::Listed),
-        "summed" => Ok(SchemeKind::Summed),
-        _ => Err(Failure::Message(format!(in heap;
-            "--scheme takes listed or summed, not {word:?}"
-        )?)),
-    }
-}
-
-fn withdrawn_mask(heap: Global, word: &str) -> Result<u64, Failure> {
-    match mask_of(word) {
-        Some(mask) => Ok(mask),
-        None => Err(Failure::Message(format!(in heap;
-            "--withdrawn takes a hexadecimal mask of 64 bits, not {word:?}"
-        )?)),
-    }
-}
-
 // One layer more, over those that there are.
-fn with_layer(layers: Layers, mask: u64) -> Layers {
+fn with_layer(layers: Layers, Mask(mask): Mask) -> Layers {
     match layers {
         Layers::Bare => Layers::One(mask),
         Layers::One(inner) => Layers::Two(inner, mask),
-        Layers::Two(inner, outer) => Layers::Two(inner, outer),
-    }
-}
-
-fn awaited_name(awaited: Awaited) -> &'static str {
-    match awaited {
-        Awaited::Keys => "--keys",
-        Awaited::Payload => "--payload",
-        Awaited::Scheme => "--scheme",
-        Awaited::Withdrawn => "--withdrawn",
+        full => full,
     }
 }
 
@@ -124,44 +129,37 @@ impl Arguments {
     }
 
     // Whether an option has been given as often as it may be.
-    fn given(&self, awaited: Awaited) -> bool {
-        match awaited {
+    fn given(&self, option: Awaited) -> bool {
+        match option {
             Awaited::Keys => self.keys.is_some(),
             Awaited::Payload => self.payload.is_some(),
             Awaited::Scheme => self.scheme.is_some(),
-            Awaited::Withdrawn => match self.layers {
-                Layers::Two(_, _) => true,
-                _ => false,
-            },
+            Awaited::Withdrawn => matches!(self.layers, Layers::Two(_, _)),
         }
     }
 
-    fn option(&mut self, heap: Global, awaited: Awaited) -> Result<(), Failure> {
-        if self.given(awaited) {
-            let name = awaited_name(awaited);
-            let often = match awaited {
+    fn option(&mut self, heap: Global, option: Awaited) -> Result<(), Failure> {
+        if self.given(option) {
+            let often = match option {
                 Awaited::Withdrawn => "three times",
                 _ => "twice",
             };
-            return Err(Failure::Message(format!(in heap; "{name} is given {often}")?));
+            return Err(message(heap, format_args!("{option} is given {often}")));
         }
-        self.awaited = Some(awaited);
+        self.awaited = Some(option);
         Ok(())
     }
 
-    fn value(&mut self, heap: Global, awaited: Awaited, word: &str) -> Result<(), Failure> {
+    fn value(&mut self, heap: Global, option: Awaited, word: &str) -> Result<(), Failure> {
         if word.starts_with("-") {
-            let name = awaited_name(awaited);
-            return Err(Failure::Message(format!(in heap; "{name} needs a value")?));
+            return Err(option.needs_value(heap));
         }
-        self.awaited = None;
-        match awaited {
+        match option {
             Awaited::Keys => self.keys = Some(String::from_str(heap, word)?),
-            Awaited::Payload => self.payload = Some(payload_kind(heap, word)?),
-            Awaited::Scheme => self.scheme = Some(scheme_kind(heap, word)?),
+            Awaited::Payload => self.payload = Some(option.value_of(heap, word)?),
+            Awaited::Scheme => self.scheme = Some(option.value_of(heap, word)?),
             Awaited::Withdrawn => {
-                let mask = withdrawn_mask(heap, word)?;
-                self.layers = with_layer(self.layers, mask);
+                self.layers = with_layer(self.layers, option.value_of(heap, word)?);
             }
         }
         Ok(())
@@ -169,45 +167,44 @@ impl Arguments {
 
     // Takes one word more.
     fn take(&mut self, heap: Global, word: &str) -> Result<(), Failure> {
-        if let Some(awaited) = self.awaited {
-            return self.value(heap, awaited, word);
+        if let Some(option) = self.awaited.take() {
+            return self.value(heap, option, word);
         }
-        match word {
-            "--help" => self.help = true,
-            "--keys" => return self.option(heap, Awaited::Keys),
-            "--payload" => return self.option(heap, Awaited::Payload),
-            "--scheme" => return self.option(heap, Awaited::Scheme),
-            "--withdrawn" => return self.option(heap, Awaited::Withdrawn),
-            _ => {
-                if word.starts_with("-") {
-                    return Err(Failure::Message(format!(in heap;
-                        "unknown option {word:?}; votelog --help lists them"
-                    )?));
-                }
-                self.files.push(String::from_str(heap, word)?)?;
-            }
+        if let Some(option) = Awaited::named(word) {
+            return self.option(heap, option);
+        }
+        if word == "--help" {
+            self.help = true;
+        } else if word.starts_with("-") {
+            return Err(message(
+                heap,
+                format_args!("unknown option {word:?}; votelog --help lists them"),
+            ));
+        } else {
+            self.files.push(String::from_str(heap, word)?)?;
         }
         Ok(())
     }
 
-    fn of(heap: Global, words: &Vec<String>) -> Result<Arguments, Failure> {
+    fn of(heap: Global, words: &[String]) -> Result<Arguments, Failure> {
         let mut arguments = Arguments::new(heap);
-        for word in words.iter().skip(1) {
+        for word in words {
             arguments.take(heap, word.as_str())?;
         }
-        arguments.end(heap)?;
-        Ok(arguments)
-    }
-
-    fn end(&self, heap: Global) -> Result<(), Failure> {
-        match self.awaited {
-            Some(awaited) => {
-                let name = awaited_name(awaited);
-                Err(Failure::Message(format!(in heap; "{name} needs a value")?))
-            }
-            None => Ok(()),
+        match arguments.awaited {
+            Some(option) => Err(option.needs_value(heap)),
+            None => Ok(arguments),
         }
     }
+}
+
+// The files that a command takes, if there are as many.
+fn exactly<const N: usize>(
+    heap: Global,
+    files: Vec<String>,
+    takes: &str,
+) -> Result<[String; N], Failure> {
+    <[String; N]>::try_from(files).map_err(|_| message(heap, takes))
 }
 
 impl Arguments {
@@ -215,106 +212,77 @@ impl Arguments {
     fn no_scheme(&self, heap: Global, name: &str) -> Result<(), Failure> {
         match (self.scheme, self.layers) {
             (None, Layers::Bare) => Ok(()),
-            _ => Err(Failure::Message(format!(in heap;
-                "{name} takes no --scheme or --withdrawn"
-            )?)),
-        }
-    }
-
-    fn show(self, heap: Global) -> Result<Command, Failure> {
-        self.no_scheme(heap, "show")?;
-        let Arguments {
-            mut files,
-            keys,
-            payload,
-            ..
-        } = self;
-        match (files.pop(), files.pop()) {
-            (Some(calls), None) => Ok(Command::Show(
-                ShowFiles { calls, keys },
-                payload.unwrap_or(PayloadKind::Digest),
-            )),
-            _ => Err(Failure::Message(String::from_str(heap, "show takes one file, CALLS")?)),
-        }
-    }
-
-    fn write(self, heap: Global) -> Result<Command, Failure> {
-        self.no_scheme(heap, "write")?;
-        let Arguments {
-            mut files,
-            keys,
-            payload,
-            ..
-        } = self;
-        match (files.pop(), files.pop(), files.pop()) {
-            (Some(calls), Some(lines), None) => Ok(Command::Write(
-                WriteFiles { lines, calls, keys },
-                payload.unwrap_or(PayloadKind::Digest),
-            )),
-            _ => Err(Failure::Message(String::from_str(
+            _ => Err(message(
                 heap,
-                "write takes two files, LINES and CALLS",
-            )?)),
+                format_args!("{name} takes no --scheme or --withdrawn"),
+            )),
         }
     }
 
-    fn check(self, heap: Global) -> Result<Command, Failure> {
+    fn show(self, heap: Global) -> Result<FileCommand, Failure> {
+        self.no_scheme(heap, "show")?;
+        let Arguments { files, keys, .. } = self;
+        let [calls] = exactly::<1>(heap, files, "show takes one file, CALLS")?;
+        Ok(FileCommand::Show(ShowFiles { calls, keys }))
+    }
+
+    fn write(self, heap: Global) -> Result<FileCommand, Failure> {
+        self.no_scheme(heap, "write")?;
+        let Arguments { files, keys, .. } = self;
+        let [lines, calls] = exactly::<2>(heap, files, "write takes two files, LINES and CALLS")?;
+        Ok(FileCommand::Write(WriteFiles { lines, calls, keys }))
+    }
+
+    fn check(self, heap: Global) -> Result<FileCommand, Failure> {
         let Arguments {
-            mut files,
+            files,
             keys,
-            payload,
             scheme,
             layers,
             ..
         } = self;
-        let scheme = scheme.unwrap_or(SchemeKind::Listed);
-        let payload = payload.unwrap_or(PayloadKind::Digest);
-        let Some(keys) = keys else {
-            return Err(Failure::Message(String::from_str(heap, "check needs --keys KEYS")?));
-        };
-        match (files.pop(), files.pop()) {
-            (Some(calls), None) => Ok(Command::Check(
-                CheckFiles {
-                    calls,
-                    keys,
-                    scheme,
-                    layers,
-                },
-                payload,
-            )),
-            _ => Err(Failure::Message(String::from_str(heap, "check takes one file, CALLS")?)),
-        }
+        let keys = keys.ok_or_else(|| message(heap, "check needs --keys KEYS"))?;
+        let [calls] = exactly::<1>(heap, files, "check takes one file, CALLS")?;
+        Ok(FileCommand::Check(CheckFiles {
+            calls,
+            keys,
+            scheme: scheme.unwrap_or_default(),
+            layers,
+        }))
     }
 }
 
-// A command on files.
-fn file_command(heap: Global, name: &str, arguments: Arguments) -> Result<Command, Failure> {
+// A command on files, which `of` makes of the words after its name.
+fn file_command<F: FnOnce(Arguments, Global) -> Result<FileCommand, Failure>>(
+    heap: Global,
+    words: &[String],
+    of: F,
+) -> Result<Command, Failure>
+    requires { F.IsAlwaysCallable of }
+{
+    let arguments = Arguments::of(heap, words)?;
     if arguments.help {
         return Ok(Command::Help);
     }
-    match name {
-        "show" => arguments.show(heap),
-        "write" => arguments.write(heap),
-        _ => arguments.check(heap),
-    }
+    let payload = arguments.payload.unwrap_or_default();
+    Ok(Command::Files(of(arguments, heap)?, payload))
 }
 
 fn words_of(rt: &HostRuntime) -> Result<Vec<String>, Failure> {
     let heap = rt.alloc();
-    match env::args(rt) {
-        Ok(all) => Ok(all.skip(1).collect(heap)?),
-        Err(error) => Err(Failure::Message(format!(in heap;
-            "cannot read the arguments: {error}"
-        )?)),
-    }
+    let all = env::args(rt).map_err(|error| message(
+        heap,
+        format_args!("cannot read the arguments: {error}"),
+    ))?;
+    Ok(all.skip(1).collect(heap)?)
 }
 
 // A command that takes no words.
-fn alone(heap: Global, name: &str, words: usize, command: Command) -> Result<Command, Failure> {
-    if words == 1 {
+fn alone(heap: Global, name: &str, words: &[String], command: Command) -> Result<Command, Failure> {
+    if words.is_empty() {
         Ok(command)
     } else {
-        Err(Failure::Message(format!(in heap; "{name} takes no other words")?))
+        Err(message(heap, format_args!("{name} takes no other words")))
     }
 }
 
@@ -322,22 +290,18 @@ fn alone(heap: Global, name: &str, words: usize, command: Command) -> Result<Com
 pub(crate) fn asked(rt: &HostRuntime) -> Result<Command, Failure> {
     let heap = rt.alloc();
     let words = words_of(rt)?;
-    let Some(name) = words.first() else {
-        return Err(Failure::Message(String::from_str(
-            heap,
-            "no command; votelog --help lists them",
-        )?));
+    let Some((name, words)) = words.as_slice().split_first() else {
+        return Err(message(heap, "no command; votelog --help lists them"));
     };
     match name.as_str() {
-        "--help" => alone(heap, "--help", words.len(), Command::Help),
-        "--version" => alone(heap, "--version", words.len(), Command::Version),
-        "show" | "write" | "check" => file_command(
+        "--help" => alone(heap, "--help", words, Command::Help),
+        "--version" => alone(heap, "--version", words, Command::Version),
+        "show" => file_command(heap, words, Arguments::show),
+        "write" => file_command(heap, words, Arguments::write),
+        "check" => file_command(heap, words, Arguments::check),
+        other => Err(message(
             heap,
-            name.as_str(),
-            Arguments::of(heap, &words)?,
-        ),
-        other => Err(Failure::Message(format!(in heap;
-            "unknown command {other:?}; votelog --help lists them"
-        )?)),
+            format_args!("unknown command {other:?}; votelog --help lists them"),
+        )),
     }
 }

@@ -1,5 +1,5 @@
-ghost use Rattle.std.specs.Prelude.{◌≡◌, ◌<◌, ◌≤◌, [], ◌∷◌, map, length};
-ghost use Rattle.directory.specs.Directories.{keys_of, faults, quorum, directory_of, place_of};
+ghost use Rattle.std.specs.Prelude.{◌≡◌, ◌<◌, ◌≤◌, [], ◌∷◌, map, length, IfSome};
+ghost use Rattle.directory.specs.Directories.{keys_of, faults, quorum, ascending, directory_of, place_of};
 ghost use Rattle.std.specs.Result.{result_map_both};
 
 use crate::directory::Directory;
@@ -14,17 +14,11 @@ impl Directory {
         if n == 0 || n > 64 {
             return Err(Refusal::DirectorySize);
         }
-        let mut table = [0u64; 64];
-        let mut last = keys[0];
-        table[0] = last;
-        for i in 1..n {
-            let key = keys[i];
-            if last >= key {
-                return Err(Refusal::DirectoryOrder);
-            }
-            table[i] = key;
-            last = key;
+        if !ascends(keys) {
+            return Err(Refusal::DirectoryOrder);
         }
+        let mut table = [0; 64];
+        table[..n].copy_from_slice(keys);
         Ok(Directory {
             keys: table,
             count: n as u32,
@@ -58,20 +52,32 @@ impl Directory {
     pub fn keys(&self) -> &[u64]
         ensures { result.now ≡ keys_of self.now }
     {
-        &self.keys[0..self.count as usize]
+        &self.keys[..self.count as usize]
     }
 
     // The number of a participant, by its key.
     pub fn index(&self, key: u64) -> Option<u32>
         ensures { result ≡ place_of key (keys_of self.now) }
     {
-        for i in 0..self.count {
-            if self.keys[i as usize] == key {
-                return Some(i);
-            }
-        }
-        None
+        place(self.keys(), key).map(|place| place as u32)
     }
+}
+
+// Whether each key is above the one before it.
+fn ascends(keys: &[u64]) -> bool
+    ensures { result ≡ ascending keys.now }
+{
+    keys.iter()
+        .zip(keys.iter().skip(1))
+        .all(|(low, high)| low < high)
+}
+
+// Where a key stands, from 0.
+fn place(keys: &[u64], key: u64) -> Option<usize>
+    ensures value { result ≡ place_of key keys.now }
+    ensures within { IfSome result (λ i. i < length keys.now) }
+{
+    keys.iter().position(|own| *own == key)
 }
 
 // The quorums of 1, 3, 4, 7 and 64 participants.

@@ -13,10 +13,7 @@ impl Counter {
     {
         Counter {
             count: 0,
-            latest: Pair {
-                first: 0,
-                second: 0,
-            },
+            latest: Pair::default(),
         }
     }
 

@@ -1,10 +1,9 @@
-use Rattle.std.proofs.Common.{◌^◌, ◌<◌, ◌≤◌, sym, ◌∙◌, arith, pow_mono}
-use Rattle.std.proofs.lemmas.Bool.{le-ltb}
-use Rattle.scheme.proofs.Masks.{bit_none}
+use Rattle.std.proofs.Common.{arith}
+use Rattle.std.proofs.lemmas.Bool.Decides.{nat_tests}
+use Rattle.std.proofs.lemmas.Nat.Bits.{bit_at_above}
 use Rattle.scheme.proofs.mask.is_masked.Goals as goal
 
 pub returns-else-signer-lt64 : goal.returns-else-signer-lt64
 returns-else-signer-lt64 c =
-    let h : 64 ≤ c.args.signer = c.if-signer-lt64.false in
-    let m : c.args.mask < 2 ^ c.args.signer = omega (arith, pow_mono {i = 64} {j = c.args.signer} h, c.ranges.mask) in
-    le-ltb c.args.signer 64 h ∙ sym (bit_none c.args.mask c.args.signer m)
+    let z = bit_at_above c.args.mask 64 c.args.signer c.ranges.mask.fits c.if-signer-lt64.false in
+    grind (arith, nat_tests)

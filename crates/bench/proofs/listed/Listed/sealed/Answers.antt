@@ -1,14 +1,14 @@
-use Rattle.std.proofs.Common.{sym, ◌∙◌}
-use Rattle.directory.specs.Directories.{keys_of}
+use Rattle.std.proofs.Common.{Some, ◌+◌, ◌*◌, ◌%◌, refl, sym, ap}
+use Rattle.tags.specs.Numbers.{prime}
 use Rattle.bench.specs.Sealed.{listed_seal}
-use Rattle.bench.specs.Sealings.{slate_sealed, listed_picky, listed_some}
+use Rattle.bench.proofs.Folds.{certified}
 use Rattle.bench.proofs.listed.Listed.sealed.Goals as goal
 
 pub returns : goal.returns
 returns c =
-    let keys = keys_of c.args.self.now.directory in
-    let l = c.args.attestations.now in
     let q = c.in_ok-slate.ensures in
-    slate_sealed listed_seal listed_picky keys l c.in_ok-slate.slate c.size-n.result c.size-n.ensures.value c.size-n.ensures.most q.1
-    c.mask_of-mask.result c.listed_seal-seal.result c.mask_of-mask.ensures c.listed_seal-seal.ensures
-    ∙ sym (listed_some keys c.args.number l q.0 (sym c.if-not-all_tagged.ensures))
+    let e = c.certificate.ensures in
+    let s = certified c.args.self.now.directory c.args.attestations.now c.in_ok-slate.slate q.0 q.1 listed_seal (λ a x. (31 * a + x) % prime) (λ n p v. refl)
+    c.certificate.result e.mask (e.seal (λ a x. (31 * a + x) % prime) (λ a x r h. h)) in
+    let a = sym c.if-not-all_tagged.ensures in
+    rw q.0 (rw a (ap Some s))

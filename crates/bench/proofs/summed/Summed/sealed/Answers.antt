@@ -1,14 +1,13 @@
-use Rattle.std.proofs.Common.{sym, ◌∙◌}
-use Rattle.directory.specs.Directories.{keys_of}
+use Rattle.std.proofs.Common.{Some, ◌+◌, ◌%◌, ap}
+use Rattle.tags.specs.Numbers.{prime}
 use Rattle.bench.specs.Sealed.{summed_seal}
-use Rattle.bench.specs.Sealings.{slate_sealed, summed_picky, summed_some}
+use Rattle.bench.proofs.Folds.{certified, sum_mod}
 use Rattle.bench.proofs.summed.Summed.sealed.Goals as goal
 
 pub returns : goal.returns
 returns c =
-    let keys = keys_of c.args.self.now.directory in
-    let l = c.args.attestations.now in
     let q = c.in_ok-slate.ensures in
-    slate_sealed summed_seal summed_picky keys l c.in_ok-slate.slate c.size-n.result c.size-n.ensures.value c.size-n.ensures.most q.1
-    c.mask_of-mask.result c.summed_seal-seal.result c.mask_of-mask.ensures c.summed_seal-seal.ensures
-    ∙ sym (summed_some keys l q.0)
+    let e = c.certificate.ensures in
+    let s = certified c.args.self.now.directory c.args.attestations.now c.in_ok-slate.slate q.0 q.1 summed_seal (λ a x. (a + x) % prime) sum_mod
+    c.certificate.result e.mask (e.seal (λ a x. (a + x) % prime) (λ a x r h. h)) in
+    rw q.0 (ap Some s)

@@ -1,11 +1,13 @@
-use Rattle.std.proofs.Common.{◌≡◌, ap, ◌∙◌, arith}
-use Rattle.calls.specs.Layout.{fields_in, layout}
-use Rattle.calls.proofs.Laid.{Bytes, layout_of_fields}
+use Rattle.std.proofs.Common.{rules, ap, ◌∙◌, arith}
+use Rattle.std.proofs.lemmas.List.{take_all}
+use Rattle.calls.specs.Layout.{layout}
+use Rattle.calls.proofs.Laid.{layout_of_fields}
 use Rattle.calls.proofs.fields.Fields.from_bytes.Goals as goal
 
-pub returns : goal.returns
-returns c =
+pub returns-clause-value : goal.returns-clause-value
+returns-clause-value c = search rules
+
+pub returns-clause-exact : goal.returns-clause-exact
+returns-clause-exact c =
     let b = c.args.bytes.now in
-    let h : Bytes b = λ k. omega (arith, c.type_inv.bytes k) in
-    let e : _ ≡ fields_in b = cc in
-    record { value = e; exact = ap layout e ∙ layout_of_fields b h c.requires }
+    ap layout (returns-clause-value c) ∙ layout_of_fields b (λ k. omega (arith, c.fits-bytes k)) (omega arith) ∙ take_all 88 b (omega arith)

@@ -1,2 +1,0 @@
-pub mod Beside
-pub mod Masks
