@@ -22,13 +22,13 @@ abbrev pub Picky : Seal → Type 0
 Picky seal =
     (n : ℕ) (p q : ℕ → Bool) (v w : ℕ → ℕ) → ((i : ℕ) → i < n → p i ≡ q i) → ((i : ℕ) → i < n → q i ≡ true → v i ≡ w i) → seal n p v ≡ seal n q w
 
-listed_picky : Picky listed_seal
+pub listed_picky : Picky listed_seal
 listed_picky = fold_same (λ x y. (31 * x + y) % prime)
 
 pub summed_picky : Picky summed_seal
 summed_picky n p q v w a b = ap (λ x. x % prime) (fold_same (λ x y. x + y) n p q v w a b)
 
-tagged_signature : (keys : List ℕ) (number : ℕ) (l : List Attestation) (s : ℕ) → every (tagged keys number) l ≡ true → signed_by s l ≡ true → signature_of s l ≡ tag_at keys number s
+pub tagged_signature : (keys : List ℕ) (number : ℕ) (l : List Attestation) (s : ℕ) → every (tagged keys number) l ≡ true → signed_by s l ≡ true → signature_of s l ≡ tag_at keys number s
 tagged_signature keys number [] s e m = absurd (grind arith)
 tagged_signature keys number (a ∷ l) s e m =
     let r = tagged_signature keys number l s in

@@ -14,7 +14,8 @@ use tags::number::{PRIME, number};
 use values::payload::Payload;
 use values::types::{Attestation, Subject};
 
-// For the trait's constant and its function both, as a proof does not see the constant's value.
+// For the trait's constant and its function both: a proof sees the value of a trait's constant by a
+// ghost member beside it alone, and one more member would ask more of every scheme.
 const LISTED_BATCHABLE: bool = false;
 
 // A scheme that judges each attestation, and whose seal lists the signatures in the order of their
@@ -24,8 +25,9 @@ pub struct Listed {
     pub directory: Directory,
 }
 
-// Beside Summed's, which answers otherwise: a trait of another crate has no impl for a type
-// parameter. The check cannot give three methods the trait's clauses yet, so they stand again.
+// Beside Summed's, with which it shares two methods of one line: one generic struct for both would give
+// their callers a marker to write in each literal. The check cannot give three methods the trait's
+// clauses yet, so they stand again.
 impl<P: Payload> Scheme<P> for Listed {
     type Certificate = Masked;
 

@@ -14,7 +14,8 @@ use tags::number::{PRIME, number, tag};
 use values::payload::Payload;
 use values::types::{Attestation, Subject};
 
-// For the trait's constant and its function both, as a proof does not see the constant's value.
+// For the trait's constant and its function both: a proof sees the value of a trait's constant by a
+// ghost member beside it alone, and one more member would ask more of every scheme.
 const SUMMED_BATCHABLE: bool = true;
 
 // A scheme that makes its certificates of sums, and so can judge a whole list by one.
@@ -23,8 +24,9 @@ pub struct Summed {
     pub directory: Directory,
 }
 
-// Beside Listed's, which answers otherwise: a trait of another crate has no impl for a type
-// parameter. The check cannot give three methods the trait's clauses yet, so they stand again.
+// Beside Listed's, with which it shares two methods of one line: one generic struct for both would give
+// their callers a marker to write in each literal. The check cannot give three methods the trait's
+// clauses yet, so they stand again.
 impl<P: Payload> Scheme<P> for Summed {
     type Certificate = Masked;
 

@@ -29,6 +29,43 @@ kind_named_lem n kind.Notarize h = grind (arith, nat_tests)
 kind_named_lem n kind.Nullify h = grind (arith, nat_tests)
 kind_named_lem n kind.Finalize h = grind (arith, nat_tests)
 
+-- the first two bytes of a record of this shape
+abbrev call_byte : Shape → ℕ
+call_byte (NetworkVote k) = 1
+call_byte (ConstructedVote k) = 2
+call_byte (Certificate k) = 3
+call_byte Leader = 4
+call_byte Forward = 5
+call_byte Attempt = 6
+call_byte MissingVoters = 7
+
+abbrev KindByte : Shape → ℕ → Type 0
+KindByte (NetworkVote k) n = n ≡ kind_number k
+KindByte (ConstructedVote k) n = n ≡ kind_number k
+KindByte (Certificate k) n = n ≡ kind_number k
+KindByte Leader n = Unit {0}
+KindByte Forward n = Unit {0}
+KindByte Attempt n = Unit {0}
+KindByte MissingVoters n = Unit {0}
+
+shape_named_lem : (c n : ℕ) (s : Shape) → shape_named c n ≡ Some s → c ≡ call_byte s
+shape_named_lem c n (NetworkVote k) h = grind (arith, nat_tests)
+shape_named_lem c n (ConstructedVote k) h = grind (arith, nat_tests)
+shape_named_lem c n (Certificate k) h = grind (arith, nat_tests)
+shape_named_lem c n Leader h = grind (arith, nat_tests)
+shape_named_lem c n Forward h = grind (arith, nat_tests)
+shape_named_lem c n Attempt h = grind (arith, nat_tests)
+shape_named_lem c n MissingVoters h = grind (arith, nat_tests)
+
+kind_byte : (c n : ℕ) (s : Shape) → shape_named c n ≡ Some s → KindByte s n
+kind_byte c n (NetworkVote k) h = kind_named_lem n k (grind (arith, nat_tests))
+kind_byte c n (ConstructedVote k) h = kind_named_lem n k (grind (arith, nat_tests))
+kind_byte c n (Certificate k) h = kind_named_lem n k (grind (arith, nat_tests))
+kind_byte c n Leader h = tt
+kind_byte c n Forward h = tt
+kind_byte c n Attempt h = tt
+kind_byte c n MissingVoters h = tt
+
 -- the fields that are not used are zero
 record Cleared (u : Used) (f : Fields) : Type 0 where
   kind : u.kind ≡ false → 0 ≡ f.kind
@@ -100,39 +137,32 @@ module _ {P : Type 0} (words : P → Words) (named : Words → Option P) (sound 
       map_if subject.Finalize (proposal_from named f) _ _ (λ p q. q)
       (proposed f _ (λ x e. record { kind = refl; round = refl; parent = refl; payload = e }))
 
+  number : (s : Shape) (f : Fields) → shape_named f.call f.kind ≡ Some s → call_byte s ≡ f.call
+  number s f a = sym (shape_named_lem f.call f.kind s a)
+
   shaped : (s : Shape) (f : Fields) → shape_named f.call f.kind ≡ Some s → Cleared (used_by s) f →
       IfOk (call_from named s f) (λ c. fields_of words c ≡ f)
   shaped (NetworkVote k) f a u =
-      let number : 1 ≡ f.call = grind (arith, nat_tests) in
-      let kind : f.kind ≡ kind_number k = kind_named_lem f.kind k (grind (arith, nat_tests)) in
       map_if _ (vote_from named k f) _ _ (λ v q. q) (map_if _ (subject_from named k f) _ _
-      (λ s q. fields_are _ f number (q.kind ∙ sym kind) u.gap refl refl u.space q.round q.parent q.payload refl)
+      (λ s q. fields_are _ f (number (NetworkVote k) f a) (q.kind ∙ sym (kind_byte f.call f.kind (NetworkVote k) a)) u.gap refl refl u.space q.round q.parent q.payload refl)
       (subjected k f u.parent u.words))
   shaped (ConstructedVote k) f a u =
-      let number : 2 ≡ f.call = grind (arith, nat_tests) in
-      let kind : f.kind ≡ kind_number k = kind_named_lem f.kind k (grind (arith, nat_tests)) in
       map_if _ (vote_from named k f) _ _ (λ v q. q) (map_if _ (subject_from named k f) _ _
-      (λ s q. fields_are _ f number (q.kind ∙ sym kind) u.gap (u.key refl) refl u.space q.round q.parent q.payload refl)
+      (λ s q. fields_are _ f (number (ConstructedVote k) f a) (q.kind ∙ sym (kind_byte f.call f.kind (ConstructedVote k) a)) u.gap (u.key refl) refl u.space q.round q.parent q.payload refl)
       (subjected k f u.parent u.words))
   shaped (Certificate k) f a u =
-      let number : 3 ≡ f.call = grind (arith, nat_tests) in
-      let kind : f.kind ≡ kind_number k = kind_named_lem f.kind k (grind (arith, nat_tests)) in
       map_if _ (subject_from named k f) _ _
-      (λ s q. fields_are _ f number (q.kind ∙ sym kind) u.gap (u.key refl) (u.participant refl) u.space q.round q.parent q.payload (u.signature refl))
+      (λ s q. fields_are _ f (number (Certificate k) f a) (q.kind ∙ sym (kind_byte f.call f.kind (Certificate k) a)) u.gap (u.key refl) (u.participant refl) u.space q.round q.parent q.payload (u.signature refl))
       (subjected k f u.parent u.words)
   shaped Leader f a u =
-      let number : 4 ≡ f.call = grind (arith, nat_tests) in
-      fields_are _ f number (u.kind refl) u.gap (u.key refl) refl u.space (u.round refl) (u.parent refl) (u.words refl) (u.signature refl)
+      fields_are _ f (number Leader f a) (u.kind refl) u.gap (u.key refl) refl u.space (u.round refl) (u.parent refl) (u.words refl) (u.signature refl)
   shaped Forward f a u =
-      let number : 5 ≡ f.call = grind (arith, nat_tests) in
-      fields_are _ f number (u.kind refl) u.gap (u.key refl) refl u.space (u.round refl) (u.parent refl) (u.words refl) (u.signature refl)
+      fields_are _ f (number Forward f a) (u.kind refl) u.gap (u.key refl) refl u.space (u.round refl) (u.parent refl) (u.words refl) (u.signature refl)
   shaped Attempt f a u =
-      let number : 6 ≡ f.call = grind (arith, nat_tests) in
-      fields_are _ f number (u.kind refl) u.gap (u.key refl) (u.participant refl) u.space (u.round refl) (u.parent refl) (u.words refl) (u.signature refl)
+      fields_are _ f (number Attempt f a) (u.kind refl) u.gap (u.key refl) (u.participant refl) u.space (u.round refl) (u.parent refl) (u.words refl) (u.signature refl)
   shaped MissingVoters f a u =
-      let number : 7 ≡ f.call = grind (arith, nat_tests) in
       map_if _ (proposal_from named f) _ _ (λ p q. q)
-      (proposed f _ (λ x e. fields_are _ f number (u.kind refl) u.gap (u.key refl) (u.participant refl) u.space refl refl e (u.signature refl)))
+      (proposed f _ (λ x e. fields_are _ f (number MissingVoters f a) (u.kind refl) u.gap (u.key refl) (u.participant refl) u.space refl refl e (u.signature refl)))
 
   checked : (s : Shape) (f : Fields) (b : Bool) → shape_named f.call f.kind ≡ Some s → clear (used_by s) f ≡ b →
       IfOk (if b then call_from named s f else Err UnusedByte) (λ c. fields_of words c ≡ f)

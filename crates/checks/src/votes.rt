@@ -31,11 +31,10 @@ pub fn judge<P: Payload, S: Scheme<P>>(
     ensures answer { result ≡ judged (S.meaning scheme.old) (read_of P.named bytes.now) }
     ensures same { S.meaning scheme.new ≡ S.meaning scheme.old }
 {
-    // A match, since the check covers no closure yet that asks a scheme: `map` was tried.
-    match vote_of(read::<P>(bytes)?) {
-        Some(vote) => Ok(Some(is_good(scheme, vote))),
-        None => Ok(None),
-    }
+    let Some(vote) = vote_of(read::<P>(bytes)?) else {
+        return Ok(None);
+    };
+    Ok(Some(is_good(scheme, vote)))
 }
 
 fn sign_vote<P: Payload>(directory: &Directory, vote: Vote<P>) -> Option<Vote<P>>

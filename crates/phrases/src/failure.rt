@@ -1,4 +1,4 @@
-use std::alloc::AllocError;
+use std::alloc::{AllocError, AllocFailed};
 use std::io;
 use thiserror::Error;
 
@@ -13,7 +13,7 @@ pub enum Failure {
     Told,
     // there was no memory
     #[error("out of memory")]
-    Memory(#[from(alloc)] AllocError),
+    Memory,
     // standard output could not be written
     #[error("cannot write the output: {0}")]
     Output(#[from] io::Error),
@@ -25,5 +25,18 @@ impl Failure {
         if !matches!(self, Failure::Told) {
             let _ = eprintln!(rt; "votelog: {self}");
         }
+    }
+}
+
+// By hand, since a derived `From` keeps the error that it is given, and want of memory needs none.
+impl From<AllocError> for Failure {
+    fn from(_error: AllocError) -> Failure {
+        Failure::Memory
+    }
+}
+
+impl<T: Drop> From<AllocFailed<T>> for Failure {
+    fn from(_error: AllocFailed<T>) -> Failure {
+        Failure::Memory
     }
 }

@@ -41,7 +41,7 @@ impl<'a> Tokens<'a> {
         self.number()
     }
 
-    // Whether there is no word more. What is there is taken.
+    // Whether no word is left. A word that is left is taken.
     pub(crate) fn at_end(&mut self) -> bool {
         self.next().is_none()
     }

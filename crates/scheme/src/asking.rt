@@ -36,7 +36,7 @@ pub fn ask<P: Payload, S: Scheme<P>>(
 }
 
 // Asks two layers over any scheme: they mean what the outer one makes of what the inner one makes
-// of the scheme.
+// of the scheme. It is `ask` at that type, and says what the type means.
 pub fn ask_pile<P: Payload, S: Scheme<P>>(
     pile: &mut Withdrawn<Withdrawn<S>>,
     subject: Subject<P>,

@@ -13,7 +13,7 @@ pub fn update_each<F: Fn(Attestation, bool) -> bool>(
     requires { F.IsAlwaysCallable change }
     ensures { (f : Attestation → Bool → Bool) → ((a : Attestation) (x r : Bool) → F.post change a x r → r ≡ f a x) → verdicts.new ≡ beside f attestations.now verdicts.old }
 {
-    // By places: of what is written through `zip` over `iter_mut` a proof knows nothing.
+    // By places: `zip` over `iter_mut` was tried, and the proof did not learn what it writes.
     for (i, verdict) in verdicts.iter_mut().enumerate() {
         if let Some(attestation) = attestations.get(i) {
             *verdict = change(*attestation, *verdict);

@@ -2,7 +2,7 @@ use directory::directory::Directory;
 use std::test::Fail;
 use values::refusal::Refusal;
 
-// The number of the refusal that is answered, or 0.
+// The number of the refusal that is answered, or 0: the tables hold the numbers that users see.
 pub(crate) fn refused<T: Drop>(answer: Result<T, Refusal>) -> u8 {
     answer.err().map_or(0, |refusal| refusal.number())
 }

@@ -26,7 +26,7 @@ fn check_lengths(rt: &impl Abort, sample: &Sample) {
 
 #[test]
 fn records_have_88_bytes(rt: HostRuntime) {
-    for sample in SAMPLES.iter() {
+    for sample in &SAMPLES {
         check_lengths(&rt, sample);
     }
 }
@@ -46,7 +46,7 @@ fn check_writes(rt: &impl Abort, sample: &Sample) {
 
 #[test]
 fn writes_leave_the_rest(rt: HostRuntime) {
-    for sample in SAMPLES.iter() {
+    for sample in &SAMPLES {
         check_writes(&rt, sample);
     }
 }
@@ -75,7 +75,7 @@ fn check_bytes(rt: &impl Abort, sample: &Sample) {
 
 #[test]
 fn every_byte_counts(rt: HostRuntime) {
-    for sample in SAMPLES.iter() {
+    for sample in &SAMPLES {
         check_bytes(&rt, sample);
     }
 }
@@ -100,7 +100,7 @@ fn check_largest(rt: &impl Abort, sample: &Sample) -> Result<(), Fail> {
 
 #[test]
 fn largest_numbers_are_read(rt: HostRuntime) -> Result<(), Fail> {
-    for sample in SAMPLES.iter() {
+    for sample in &SAMPLES {
         check_largest(&rt, sample)?;
     }
     Ok(())

@@ -16,7 +16,7 @@ impl Sample {
     }
 }
 
-const ROUND: Rnd = Rnd { epoch: 1, view: 7 };
+pub(crate) const ROUND: Rnd = Rnd { epoch: 1, view: 7 };
 
 const PROPOSAL: Proposal<Digest> = Proposal {
     round: ROUND,
@@ -29,7 +29,7 @@ const PROPOSAL: Proposal<Digest> = Proposal {
     },
 };
 
-const SIGNED: Attestation = Attestation {
+pub(crate) const SIGNED: Attestation = Attestation {
     signer: 3,
     signature: 2618,
 };

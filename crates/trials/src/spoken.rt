@@ -1,3 +1,4 @@
+use crate::samples::{ROUND, SIGNED};
 use calls::call::{Call, same_call};
 use phrases::lines::{call_words, line_call};
 use phrases::payloads::Spoken;
@@ -6,14 +7,7 @@ use std::alloc::Global;
 use std::process::Abort;
 use std::test::Fail;
 use values::payload::{BlockName, Digest};
-use values::types::{Attestation, Proposal, Rnd, Subject, Vote};
-
-const ROUND: Rnd = Rnd { epoch: 1, view: 7 };
-
-const SIGNED: Attestation = Attestation {
-    signer: 3,
-    signature: 2618,
-};
+use values::types::{Proposal, Subject, Vote};
 
 fn proposal<P>(payload: P) -> Proposal<P> {
     Proposal {

@@ -12,7 +12,7 @@ pub(crate) enum PayloadKind {
 #[derive(Clone, Copy, Debug, PartialEq, Eq)]
 pub(crate) struct Mask(pub(crate) u64);
 
-// A value that an option takes.
+// A value that an option takes. Not FromStr, which SchemeKind's own crate would have to give.
 pub(crate) trait Value: Sized {
     // What values there are, in words.
     const TAKES: &'static str;

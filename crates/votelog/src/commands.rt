@@ -6,7 +6,6 @@ use phrases::payloads::Spoken;
 use phrases::showing::directory_of;
 use phrases::writing::records_of;
 use phrases::{checking, showing};
-use std::alloc::AllocError;
 use std::io;
 use std::io::Write;
 
@@ -17,7 +16,7 @@ fn print<F: FnOnce(&mut io::BufWriter<io::Stdout>) -> Result<(), Failure>>(
 ) -> Result<(), Failure>
     requires { F.IsAlwaysCallable tell }
 {
-    let mut out = io::BufWriter::new(rt.alloc(), rt.stdout()).map_err(|_| AllocError)?;
+    let mut out = io::BufWriter::new(rt.alloc(), rt.stdout()).map_err(|_| Failure::Memory)?;
     let told = tell(&mut out);
     out.flush()?;
     told

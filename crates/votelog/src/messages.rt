@@ -4,8 +4,6 @@ use std::fmt::Display;
 
 // What to tell the user, if there is memory for it.
 pub(crate) fn message<T: Display + Drop>(heap: Global, text: T) -> Failure {
-    match text.to_string(heap) {
-        Ok(text) => Failure::Message(text),
-        Err(error) => Failure::from(error),
-    }
+    text.to_string(heap)
+        .map_or_else(Failure::from, Failure::Message)
 }
