@@ -14,8 +14,8 @@ use tags::number::{PRIME, number, tag};
 use values::payload::Payload;
 use values::types::{Attestation, Subject};
 
-// For the trait's constant and its function both: a proof sees the value of a trait's constant by a
-// ghost member beside it alone, and one more member would ask more of every scheme.
+// For the trait's constant and its function both. That the function answer the trait's constant was
+// tried: a proof sees its value by a ghost member beside it alone, which would ask more of every scheme.
 const SUMMED_BATCHABLE: bool = true;
 
 // A scheme that makes its certificates of sums, and so can judge a whole list by one.

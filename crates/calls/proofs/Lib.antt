@@ -2,3 +2,4 @@ mod Digits
 mod Laid
 mod Onlyread
 mod Unread
+pub mod Walked

@@ -72,7 +72,7 @@ impl<P: Payload> Call<P> {
             Call::NetworkVote(_, vote) | Call::ConstructedVote(vote) => vote.subject.round(),
             Call::Certificate(subject) => subject.round(),
             Call::MissingVoters(proposal) => proposal.round,
-            _ => Rnd { epoch: 0, view: 0 },
+            _ => Rnd::default(),
         }
     }
 

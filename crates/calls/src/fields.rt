@@ -33,8 +33,8 @@ fn number_in(part: &[u8]) -> u64
     u64::from_le_bytes(word)
 }
 
-// Methods, not impls of `From`: `to_bytes` has a `requires`, which a `from` cannot have, and
-// `from_bytes` stands beside it.
+// Methods, not impls of `From`: `to_bytes` has a `requires`, which a `from` cannot have, and the two
+// clauses of `from_bytes` would have to be one.
 impl Fields {
     // The fields that a record's bytes hold.
     pub(crate) fn from_bytes(bytes: &[u8; RECORD]) -> Fields

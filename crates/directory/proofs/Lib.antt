@@ -1,1 +1,2 @@
 mod Keyring
+pub mod Walked

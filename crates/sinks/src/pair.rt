@@ -9,7 +9,8 @@ pub struct Pair {
 }
 
 impl Pair {
-    // Its 16 bytes: the two numbers, the lowest byte first.
+    // Its 16 bytes: the two numbers, the lowest byte first. A method, as the numbers have theirs: an
+    // impl of `From` would be called by its type, `<[u8; 16]>::from`.
     pub(crate) fn to_bytes(self) -> [u8; 16]
         ensures { result ≡ pair_bytes self }
     {

@@ -17,7 +17,7 @@ pub enum Activity {
 }
 
 impl Activity {
-    // The number that users see.
+    // The number that users see. A cast takes no type parameter, so each enum with numbers has this.
     pub fn number(self) -> u8
         ensures { result ≡ activity_number self }
     {

@@ -33,7 +33,7 @@ pub enum Refusal {
 }
 
 impl Refusal {
-    // The number that users see.
+    // The number that users see. A cast takes no type parameter, so each enum with numbers has this.
     pub fn number(self) -> u8
         ensures { result ≡ refusal_number self }
     {

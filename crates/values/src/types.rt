@@ -9,7 +9,7 @@ use crate::payload::Payload;
 use crate::refusal::Refusal;
 
 // A view of an epoch: what one round of voting decides.
-#[derive(Clone, Copy, Debug, PartialEq, Eq)]
+#[derive(Clone, Copy, Debug, Default, PartialEq, Eq)]
 pub struct Rnd {
     pub epoch: u64,
     pub view: u64,

@@ -1,27 +1,19 @@
-use Rattle.std.proofs.Common.{◌≡◌, ℕ, zero, suc, ◌+◌, ◌<◌, ◌≤◌, false, List, [], ◌∷◌, length, get_or, take, set, refl, ap, ◌∙◌, add-one, arith}
+use Rattle.std.proofs.Common.{◌≡◌, ℕ, zero, suc, ◌+◌, ◌<◌, false, List, [], ◌∷◌, length, get_or, take, set, ap, ◌∙◌, add-one, arith}
 use Rattle.std.proofs.lemmas.List.{take_all, set-get_or}
 use Rattle.scheme.specs.Meaning.{beside}
+use Rattle.scheme.proofs.Beside.{beside_all}
 use Rattle.values.specs.declared.types.Attestation.{Attestation}
 use Rattle.scheme.proofs.verdicts.update_each.Goals as goal
 use Rattle.scheme.proofs.verdicts.update_each.Goals.{in-Some, in_default}
 
 module _ {V : Type 0} (f : Attestation → V → V) where
   -- the place i is changed by the attestation a beside it
-  beside_suc : (l : List Attestation) (v : List V) (i : ℕ) (a : Attestation) (e : V) → i < length l → i < length v → a ≡ get_or l i a
+  beside_one : (l : List Attestation) (v : List V) (i : ℕ) (a : Attestation) (e : V) → i < length l → i < length v → a ≡ get_or l i a
       → set (beside f (take i l) v) i (f a (get_or (beside f (take i l) v) i e)) ≡ beside f (take (suc i) l) v
-  beside_suc [] v i a e h k q = absurd (omega arith)
-  beside_suc (b ∷ l) [] i a e h k q = absurd (omega arith)
-  beside_suc (b ∷ l) (x ∷ v) zero a e h k q = ap (λ z. f z x ∷ v) q
-  beside_suc (b ∷ l) (x ∷ v) (suc i) a e h k q = ap (λ z. f b x ∷ z) (beside_suc l v i a e (omega arith) (omega arith) q)
-
-  -- places without an attestation stay
-  beside_all : (l : List Attestation) (v : List V) (i : ℕ) → length v ≤ i → beside f (take i l) v ≡ beside f l v
-  beside_all [] v zero h = refl
-  beside_all [] v (suc i) h = refl
-  beside_all (b ∷ l) [] zero h = refl
-  beside_all (b ∷ l) [] (suc i) h = refl
-  beside_all (b ∷ l) (x ∷ v) zero h = absurd (omega arith)
-  beside_all (b ∷ l) (x ∷ v) (suc i) h = ap (λ z. f b x ∷ z) (beside_all l v i (omega arith))
+  beside_one [] v i a e h k q = absurd (omega arith)
+  beside_one (b ∷ l) [] i a e h k q = absurd (omega arith)
+  beside_one (b ∷ l) (x ∷ v) zero a e h k q = ap (λ z. f z x ∷ v) q
+  beside_one (b ∷ l) (x ∷ v) (suc i) a e h k q = ap (λ z. f b x ∷ z) (beside_one l v i a e (omega arith) (omega arith) q)
 
 pub loop-i-preserved : goal.loop-i-preserved
 loop-i-preserved g c = λ f h.
@@ -33,7 +25,7 @@ loop-i-preserved g c = λ f h.
     elim c.match-get.branch [
       | in-Some w ↦
           let p = w.in-Some.ensures.lookup in
-          let e = beside_suc f l v i w.in-Some.attestation.now false p.3.0 k p.1 in
+          let e = beside_one f l v i w.in-Some.attestation.now false p.3.0 k p.1 in
           let n = add-one i in
           let r = h w.in-Some.attestation.now (get_or c.loop-i.verdicts i false) w.change.result w.change.ensures in
           cc
@@ -46,4 +38,4 @@ loop-i-preserved g c = λ f h.
     ]
 
 pub returns : goal.returns
-returns g c = λ f h. c.loop-i.invariant f h ∙ beside_all f c.args.attestations.now c.args.verdicts.now c.loop-i.i c.loop-i-test.false
+returns g c = λ f h. c.loop-i.invariant f h ∙ beside_all f c.args.attestations.now c.args.verdicts.now c.loop-i.i (λ p q. omega arith)
