@@ -18,7 +18,7 @@ use Rattle.bench.specs.Picks.{fold_same, mask_below}
 use Rattle.bench.specs.Signers.{signed_is, signed_below}
 
 -- where none from n on is picked
-fold_past : (f : ℕ → ℕ → ℕ) (n m : ℕ) (p : ℕ → Bool) (v : ℕ → ℕ) → n ≤ m → ((i : ℕ) → n ≤ i → p i ≡ false) → fold_up_to f m p v ≡ fold_up_to f n p v
+pub fold_past : (f : ℕ → ℕ → ℕ) (n m : ℕ) (p : ℕ → Bool) (v : ℕ → ℕ) → n ≤ m → ((i : ℕ) → n ≤ i → p i ≡ false) → fold_up_to f m p v ≡ fold_up_to f n p v
 fold_past f zero zero p v h k = refl
 fold_past f (suc n) zero p v h k = absurd (omega arith)
 fold_past f n (suc m) p v h k =

@@ -66,3 +66,7 @@ module _ {P : Type 0} (words : P → Words) (named : Words → Option P) where
 
   pub told_none : (c : Call P) → proposal_in c ≡ None → Told words named (proposal_in c)
   told_none c e = subst (λ o. IfSome o (λ p. named (words p.payload) ≡ Some p.payload)) (sym e) tt
+
+-- one part more behind a front
+pub longer : {x y front : List ℕ} (part : List ℕ) → x ≡ y ++ part → y ≡ front → x ≡ front ++ part
+longer part e f = e ∙ ap (λ z. z ++ part) f

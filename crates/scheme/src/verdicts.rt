@@ -15,8 +15,9 @@ pub fn update_each<F: Fn(Attestation, bool) -> bool>(
 {
     // By places: `zip` over `iter_mut` was tried, and the proof did not learn what it writes.
     for (i, verdict) in verdicts.iter_mut().enumerate() {
-        if let Some(attestation) = attestations.get(i) {
-            *verdict = change(*attestation, *verdict);
-        }
+        let Some(attestation) = attestations.get(i) else {
+            break;
+        };
+        *verdict = change(*attestation, *verdict);
     }
 }

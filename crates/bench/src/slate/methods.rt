@@ -29,7 +29,10 @@ impl Slate {
             }
             signatures[signer] = Some(attestation.signature);
         }
-        Some(Slate { signatures })
+        Some(Slate {
+            signatures,
+            size: n as usize,
+        })
     }
 
     // From 0 on, what `next` makes of the total so far, a signer and its signature, for all
@@ -39,7 +42,7 @@ impl Slate {
         ensures { (f : ℕ → ℕ → ℕ) (v : ℕ → ℕ) → ((total signer r : ℕ) → signer < 64 → F.post next total signer (signatures_of self.now signer) r → r ≡ f total (v signer)) → result ≡ fold_up_to f (length self.now.signatures) (seen_of self.now) v }
     {
         let mut total = 0;
-        for (signer, place) in self.signatures.iter().enumerate() {
+        for (signer, place) in self.signatures[..self.size].iter().enumerate() {
             if let Some(signature) = place {
                 total = next(total, signer, *signature);
             }

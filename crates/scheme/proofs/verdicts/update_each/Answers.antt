@@ -1,10 +1,10 @@
-use Rattle.std.proofs.Common.{◌≡◌, ℕ, zero, suc, ◌+◌, ◌<◌, false, List, [], ◌∷◌, length, get_or, take, set, ap, ◌∙◌, add-one, arith}
-use Rattle.std.proofs.lemmas.List.{take_all, set-get_or}
+use Rattle.std.proofs.Common.{◌≡◌, ℕ, zero, suc, ◌<◌, false, List, [], ◌∷◌, length, get_or, take, set, ap, ◌∙◌, add-one, arith}
+use Rattle.std.proofs.lemmas.List.{set-get_or}
 use Rattle.scheme.specs.Meaning.{beside}
 use Rattle.scheme.proofs.Beside.{beside_all}
 use Rattle.values.specs.declared.types.Attestation.{Attestation}
 use Rattle.scheme.proofs.verdicts.update_each.Goals as goal
-use Rattle.scheme.proofs.verdicts.update_each.Goals.{in-Some, in_default}
+use Rattle.scheme.proofs.verdicts.update_each.Goals.{else-loop-i-test, then-loop-i-test+in_default}
 
 module _ {V : Type 0} (f : Attestation → V → V) where
   -- the place i is changed by the attestation a beside it
@@ -20,22 +20,22 @@ loop-i-preserved g c = λ f h.
     let l = c.args.attestations.now in
     let v = c.args.verdicts.now in
     let i = c.loop-i.i in
+    let a = c.in-Some.attestation.now in
     let k : i < length v = c.loop-i-test.true in
+    let p = c.in-Some.ensures.lookup in
     let j = c.loop-i.invariant f h in
-    elim c.match-get.branch [
-      | in-Some w ↦
-          let p = w.in-Some.ensures.lookup in
-          let e = beside_one f l v i w.in-Some.attestation.now false p.3.0 k p.1 in
-          let n = add-one i in
-          let r = h w.in-Some.attestation.now (get_or c.loop-i.verdicts i false) w.change.result w.change.ensures in
-          cc
-      | in_default w ↦
-          let p = w.in_default.ensures.lookup in
-          let s = set-get_or c.loop-i.verdicts i false in
-          let a = take_all i l (omega arith) in
-          let b = take_all (i + 1) l (omega arith) in
-          cc
-    ]
+    let e = beside_one f l v i a false p.3.0 k p.1 in
+    let n = add-one i in
+    let r = h a (get_or c.loop-i.verdicts i false) c.change.result c.change.ensures in
+    cc
 
+-- where the attestations or the places end, all is as it is beside the whole lists
 pub returns : goal.returns
-returns g c = λ f h. c.loop-i.invariant f h ∙ beside_all f c.args.attestations.now c.args.verdicts.now c.loop-i.i (λ p q. omega arith)
+returns g c = λ f h.
+    let all = beside_all f c.args.attestations.now c.args.verdicts.now c.loop-i.i in
+    elim c.loop-i-test.branch [
+      | else-loop-i-test w ↦ w.verdicts-is ∙ c.loop-i.invariant f h ∙ all (λ p q. omega arith)
+      | then-loop-i-test+in_default w ↦
+          let o = w.in_default.ensures.lookup in
+          w.verdicts-is ∙ set-get_or c.loop-i.verdicts c.loop-i.i false ∙ c.loop-i.invariant f h ∙ all (λ p q. omega arith)
+    ]

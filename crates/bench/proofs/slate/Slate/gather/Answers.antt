@@ -1,13 +1,14 @@
-use Rattle.std.proofs.Common.{◌≡◌, ℕ, zero, suc, ◌+◌, ◌<◌, Bool, false, not, ◌&&◌, List, [], ◌∷◌, Option, None, Some, length, drop, set, get_or, replicate, refl, sym, ap, ◌∙◌, inl, inr, arith, get_or-set_same, get_or-set_other, length-set}
+use Rattle.std.proofs.Common.{◌≡◌, ℕ, zero, suc, slice_index_or, ◌+◌, ◌<◌, ◌≤◌, Bool, true, false, not, ◌&&◌, List, [], ◌∷◌, Option, None, Some, length, drop, set, get_or, replicate, refl, sym, ap, ◌∙◌, inl, inr, arith, get_or-set_same, get_or-set_other, length-set}
 use Rattle.std.specs.List.{list_all}
 use Rattle.std.specs.Option.{is_none, is_some, option_or}
-use Rattle.std.proofs.lemmas.Bool.{cases_eq}
+use Rattle.std.proofs.lemmas.Bool.{cases_Bool, cases_eq, cases_lt}
 use Rattle.std.proofs.lemmas.Bool.Decides.{nat_tests}
-use Rattle.std.proofs.lemmas.List.{drop_more}
+use Rattle.std.proofs.lemmas.List.{drop_more, drop_all, get_or_past}
 use Rattle.std.proofs.lemmas.List.Sums.{list_all-from_AllPass}
 use Rattle.scheme.specs.Meaning.{signed_by, different}
 use Rattle.values.specs.declared.types.Attestation.{Attestation}
 use Rattle.bench.specs.Sealed.{signature_by}
+use Rattle.bench.specs.Signers.{signed_is, signed_below}
 use Rattle.bench.proofs.slate.Slate.gather.Goals as goal
 
 -- the place of an attestation's signer is free
@@ -83,4 +84,36 @@ loop-attestation-preserved c =
       place_is = λ s h. c.loop-attestation.invariant.place_is s h
           ∙ ap (λ w. option_or (get_or u s None) (signature_by s w)) e
           ∙ place_more u a r s k z;
+    }
+
+-- no place behind the participants' is taken, as no signer is behind them
+free_behind : (n s : ℕ) (l : List Attestation) → different n l ≡ true → n ≤ s → signature_by s l ≡ None
+free_behind n s l d h =
+    elim (cases_Bool (is_some (signature_by s l))) [
+      | inl t ↦ let b = signed_below n s l d (signed_is s l ∙ t) in absurd (omega arith)
+      | inr e ↦ taken_not (signature_by s l) (sym e)
+    ]
+
+or_none : (o : Option ℕ) → option_or o None ≡ o
+or_none None = refl
+or_none (Some x) = refl
+
+pub invariant_of-result : goal.invariant_of-result
+invariant_of-result c =
+    let l = c.args.attestations.now in
+    let u = c.loop-attestation.signatures in
+    let v = c.loop-attestation.invariant in
+    let e : drop c.loop-attestation.attestation-index l ≡ [] = drop_all c.loop-attestation.attestation-index l c.loop-attestation-test.false in
+    let d : different c.size-n.result l ≡ true =
+    v.rest ∙ ap (λ r. different c.size-n.result r && list_all (λ a. is_none (slice_index_or u a.signer None)) r) e in
+    record {
+      table = v.places;
+      most = c.size-n.ensures.most;
+      free = λ i h. elim (cases_lt i 64) [
+        | inl b ↦ sym (or_none (get_or u i None))
+            ∙ ap (λ r. option_or (get_or u i None) (signature_by i r)) (sym e)
+            ∙ sym (v.place_is i b)
+            ∙ free_behind c.size-n.result i l d h
+        | inr b ↦ get_or_past u i None (omega (arith, v.places))
+      ];
     }
